@@ -1,0 +1,161 @@
+-- The meaning of a chunk's bytes: what the rules on a chunk by itself make of them (FORMAT, Chunk).
+-- Assumes nothing.
+use Prim.Native.Nat.{ℕ, zero, suc, _+_, _-_, _*_, _/_, _%_, _^_}
+use mathlib.Core.List.{List, [], _∷_}
+use mathlib.Core.Bool.{Bool, true, false, cond, not, _&&_, _||_}
+use lib.ListN.{length}
+use lib.Dec.{ltb, leb, eqb}
+use Rattle.fields.specs.Le.{le}
+use Rattle.fields.specs.Same.{standsAt}
+use Rattle.names.specs.Names.{below}
+use Rattle.entries.specs.Entry.{itemAt, nameOf}
+use Rattle.entries.specs.declared.Limits.{Limits}
+use Rattle.entries.specs.declared.Place.{Place}
+use Rattle.entries.specs.declared.Item.{Item}
+use Rattle.entries.specs.declared.Item.the-variants.{Good}
+
+-- ---- what a chunk can mean
+
+-- an entry: its place in the chunk, its name's place and bytes, its numbers (those that its kind lacks are 0)
+pub record Entry : Type 0 where
+  pub at : ℕ
+  pub start : ℕ
+  pub name : List ℕ
+  pub section : ℕ
+  pub offset : ℕ
+  pub size : ℕ
+  pub child : ℕ
+
+-- `bad` has the refusal's number, `listing` the previous and the next listing chunk
+pub data Parsed : Type 0 where
+  bad : ℕ → Parsed
+  listing : ℕ → ℕ → List Entry → Parsed
+  index : List Entry → Parsed
+
+-- ---- the fixed parts; the kind of a chunk is true for listing, false for index
+
+-- `PMGL` and `PMGI`
+abbrev pub tagOf : Bool → List ℕ
+tagOf true = 0x50 ∷ 0x4D ∷ 0x47 ∷ 0x4C ∷ []
+tagOf false = 0x50 ∷ 0x4D ∷ 0x47 ∷ 0x49 ∷ []
+
+-- the length of the header
+abbrev pub headOf : Bool → ℕ
+headOf true = 20
+headOf false = 8
+
+-- the count of entries: the chunk's last 16 bits
+abbrev pub countOf : List ℕ → ℕ
+countOf s = le 2 s 4094
+
+-- the length of the tail
+abbrev pub tailOf : List ℕ → ℕ
+tailOf s = le 4 s 4
+
+-- how many entries there are from one that has a quick word to the next
+abbrev pub spacingOf : ℕ → ℕ
+spacingOf density = 1 + 2 ^ density
+
+-- how many quick words c entries have
+abbrev pub quickCount : ℕ → ℕ → ℕ
+quickCount n c = (c - 1) / n
+
+-- there is an entry; the tail has room for the count and the quick words, and leaves room for the header: refusal 9
+unfoldable pub framed : ℕ → Bool → List ℕ → Bool
+framed n k s = ltb 0 (countOf s) && (leb (2 + 2 * quickCount n (countOf s)) (tailOf s) && leb (tailOf s) (4096 - headOf k))
+
+-- ---- the entries: refusal 10
+
+-- entries that were read one behind another; `broken` where one of them is no entry or the last does not end at the tail
+pub data Entries : Type 0 where
+  broken : Entries
+  all : List Entry → Entries
+
+-- the entry at a place, with its name's bytes
+abbrev pub entryOf : List ℕ → Place → Entry
+entryOf s e =
+    record { at = e .at; start = e .start; name = nameOf s e; section = e .section; offset = e .offset; size = e .size; child = e .child }
+
+abbrev pub push : Entry → Entries → Entries
+push e broken = broken
+push e (all es) = all (e ∷ es)
+
+abbrev pub withItem : {A : Type 0} → Item → A → (Place → A) → A
+withItem Item.Bad d f = d
+withItem (Good e) d f = f e
+
+-- n entries one behind another from a place on, the last of which ends at `end`
+unfoldable pub entriesAt : Limits → Bool → List ℕ → ℕ → ℕ → ℕ → Entries
+entriesAt limits k s end zero at = cond (eqb at end) (all []) broken
+entriesAt limits k s end (suc n) at = withItem (itemAt limits k s at) broken (λ e. push (entryOf s e) (entriesAt limits k s end n (e .next)))
+
+-- ---- the order: refusal 12
+
+-- each name comes after the one before it, and the first after `last`; no name is before every name
+unfoldable pub rising : List ℕ → List Entry → Bool
+rising last [] = true
+rising last (e ∷ es) = below last (e .name) && rising (e .name) es
+
+-- ---- the quick words: refusal 11
+
+-- word k, from 1 on: backward from the chunk's end, two bytes apart
+abbrev pub quickWord : List ℕ → ℕ → ℕ
+quickWord s k = le 2 s (4094 - 2 * k)
+
+-- entry i, which stands at a place, has a quick word where i is a multiple of n other than 0: word i / n, its distance from the first entry
+unfoldable pub quickAt : List ℕ → ℕ → ℕ → ℕ → ℕ → Bool
+quickAt s n first i at = eqb i 0 || (ltb 0 (i % n) || eqb (first + quickWord s (i / n)) at)
+
+-- the same for i = word * n + past, with past below n
+abbrev pub markRight : List ℕ → ℕ → ℕ → ℕ → ℕ → Bool
+markRight s first word past at = ltb 0 past || (eqb word 0 || eqb (first + quickWord s word) at)
+
+-- each entry stands where its quick word says, if it has one; the first of the list is entry i
+unfoldable pub quick : List ℕ → ℕ → ℕ → ℕ → List Entry → Bool
+quick s n first i [] = true
+quick s n first i (e ∷ es) = quickAt s n first i (e .at) && quick s n first (i + 1) es
+
+-- ---- a whole chunk: the checks in their order, 8, 9, 10, 12, 11
+
+abbrev pub made : Bool → List ℕ → List Entry → Parsed
+made true s es = listing (le 4 s 12) (le 4 s 16) es
+made false s es = index es
+
+-- entries that were read, by the rules on all of them
+unfoldable pub judged : ℕ → Bool → List ℕ → Entries → Parsed
+judged n k s broken = bad 10
+judged n k s (all es) = cond (rising [] es) (cond (quick s n (headOf k) 0 es) (made k s es) (bad 11)) (bad 12)
+
+-- a chunk of 4,096 bytes of a known kind, with n entries from one quick word to the next
+unfoldable pub parsedAs : ℕ → Limits → Bool → List ℕ → Parsed
+parsedAs n limits k s =
+    cond (framed n k s) (judged n k s (entriesAt limits k s (4096 - tailOf s) (countOf s) (headOf k))) (bad 9)
+
+-- any bytes as a chunk
+unfoldable pub parsed : Limits → List ℕ → Parsed
+parsed limits s =
+    cond (eqb (length s) 4096)
+    (cond (standsAt s 0 (tagOf true)) (parsedAs (spacingOf (limits .density)) limits true s)
+    (cond (standsAt s 0 (tagOf false)) (parsedAs (spacingOf (limits .density)) limits false s)
+    (bad 8)))
+    (bad 8)
+
+-- ---- what is asked of a parsed chunk
+
+-- the number of the refusal, 0 for a good chunk
+unfoldable pub faultOf : Parsed → ℕ
+faultOf (bad n) = n
+faultOf (listing p n es) = 0
+faultOf (index es) = 0
+
+-- the entries; a refused chunk has none
+abbrev pub entriesIn : Parsed → List Entry
+entriesIn (bad n) = []
+entriesIn (listing p n es) = es
+entriesIn (index es) = es
+
+-- it is good, and of the kind k
+abbrev pub isKind : Bool → Parsed → Bool
+isKind k (bad n) = false
+isKind k (listing p n es) = k
+isKind k (index es) = not k

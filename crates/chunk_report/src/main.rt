@@ -1,0 +1,84 @@
+// Reports on each chunk of standard input, 4,096 bytes each, held to density 2, 3 chunks and a content of 5 bytes. A line a chunk:
+// the refusal's number, or what the chunk is, and then the places of some entries by index, of the last one, and of those that some names lead to.
+use chunk::Chunk;
+use entries::Limits;
+use libc::STDOUT_FILENO;
+use seek::Hit;
+
+fn number(n: u64) {
+    io::write_all(STDOUT_FILENO, b" ");
+    io::print_decimal(STDOUT_FILENO, n);
+}
+
+fn place(h: Hit) {
+    match h {
+        Hit::At(e) => number(e.at as u64),
+        Hit::Nothing => {
+            io::write_all(STDOUT_FILENO, b" -");
+        }
+    }
+}
+
+fn sought(c: &[u8], limits: Limits, listing: bool, name: &[u8]) {
+    if listing {
+        place(seek::find(c, limits, name));
+    } else {
+        place(seek::choose(c, limits, name));
+    }
+}
+
+fn searches(c: &[u8], limits: Limits, listing: bool) {
+    io::write_all(STDOUT_FILENO, b" :");
+    place(seek::first_entry(c, limits, listing));
+    place(seek::nth_entry(c, limits, listing, 4));
+    place(seek::nth_entry(c, limits, listing, 5));
+    place(seek::nth_entry(c, limits, listing, 9));
+    place(seek::nth_entry(c, limits, listing, 10));
+    place(seek::nth_entry(c, limits, listing, 65535));
+    place(seek::last_entry(c, limits, listing));
+    io::write_all(STDOUT_FILENO, b" :");
+    sought(c, limits, listing, b"/");
+    sought(c, limits, listing, b"/000");
+    sought(c, limits, listing, b"/005XX");
+    sought(c, limits, listing, b"/005");
+    sought(c, limits, listing, b"/9");
+    sought(c, limits, listing, b"/Z");
+    sought(c, limits, listing, b"/a.HTM");
+}
+
+fn report(c: &[u8], limits: Limits) {
+    match chunk::check(c, limits) {
+        Chunk::Refused(n) => {
+            io::print_decimal(STDOUT_FILENO, n as u64);
+        }
+        Chunk::Listing(previous, next) => {
+            io::write_all(STDOUT_FILENO, b"L");
+            number(previous as u64);
+            number(next as u64);
+            number(fields::le16(c, 4094) as u64);
+            searches(c, limits, true);
+        }
+        Chunk::Index => {
+            io::write_all(STDOUT_FILENO, b"I");
+            number(fields::le16(c, 4094) as u64);
+            searches(c, limits, false);
+        }
+    }
+    io::write_all(STDOUT_FILENO, b"\n");
+}
+
+fn main() {
+    let limits = Limits {
+        density: 2,
+        count: 3,
+        content: 5,
+    };
+    let mut buf = io::buffer();
+    for _ in 0..4096u32 {
+        let got = io::read_full(0, &mut buf);
+        if got == 0 {
+            return;
+        }
+        report(&buf[..got], limits);
+    }
+}

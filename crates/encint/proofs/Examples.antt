@@ -1,0 +1,43 @@
+-- Examples of ENCINTs: numbers of one, two, three and nine bytes, and bytes that are refused.
+-- Assumes nothing.
+use mathlib.Core.Path.{_≡_, refl}
+use mathlib.Core.List.{List, [], _∷_, _++_}
+use Prim.Native.Nat.{ℕ, _-_, _^_}
+use lib.ListN.{length, replicate}
+use Rattle.encint.specs.Encint.{rest, decoded, encintAt, groups, leading, encoded}
+use Rattle.encint.specs.declared.Number.the-variants.{Value, Bad}
+
+-- bytes, and the value they stand for
+record Example : Type 0 where
+  bytes : List ℕ
+  value : ℕ
+
+infix 80 _is_
+abbrev _is_ : List ℕ → ℕ → Example
+l is v = record { bytes = l; value = v }
+
+-- all the bytes are read as the value, and are what is written for it
+abbrev Accepted : List Example → Type 0
+Accepted [] = Unit {0}
+Accepted (e ∷ es) = (encintAt (e .bytes) 0 ≡ Value (e .value) (length (e .bytes))) × (encoded (e .value) ≡ e .bytes) × Accepted es
+
+abbrev Refused : List (List ℕ) → Type 0
+Refused [] = Unit {0}
+Refused (l ∷ ls) = (encintAt l 0 ≡ Bad) × Refused ls
+
+pub accepted :
+    Accepted
+    ((0x00 ∷ []) is 0
+    ∷ (0x7F ∷ []) is 127
+    ∷ (0x81 ∷ 0x00 ∷ []) is 128
+    ∷ (0xEA ∷ 0x15 ∷ []) is 13589
+    ∷ (0xFF ∷ 0x7F ∷ []) is 16383
+    ∷ (0x81 ∷ 0x80 ∷ 0x00 ∷ []) is 16384
+    ∷ (replicate 8 0xFF ++ (0x7F ∷ [])) is (2 ^ 63 - 1)
+    ∷ [])
+unfolding rest decoded encintAt groups leading encoded
+accepted = (refl, refl, (refl, refl, (refl, refl, (refl, refl, (refl, refl, (refl, refl, (refl, refl, tt)))))))
+
+pub refused : Refused ((0x80 ∷ 0x01 ∷ []) ∷ (replicate 9 0xFF ++ (0x7F ∷ [])) ∷ [] ∷ [])
+unfolding rest decoded encintAt
+refused = (refl, (refl, (refl, tt)))

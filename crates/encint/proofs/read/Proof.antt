@@ -1,0 +1,44 @@
+-- `encint::read` meets its contract. Assumes nothing.
+use mathlib.Core.Path.{sym, _∙_}
+use native.Mathlib.Omega.{arith}
+use borrow.Author.Needs.{needs}
+use Rattle.encint.proofs.Reading.{at-past, at-one, at-refused, at-number}
+use Rattle.encint.proofs.read.Statement.{statement}
+use Rattle.encint.proofs.read.Tie as tie
+
+returns : tie.Need-returns
+returns c = sym (at-past _ _ (c .if1 .taken))
+
+shared-slice-read-b : tie.Need-shared-slice-read-b
+shared-slice-read-b c = search needs
+
+cast-t8 : tie.Need-cast-t8
+cast-t8 c = search needs
+
+add-t9 : tie.Need-add-t9
+add-t9 c = search needs
+
+returns-2 : tie.Need-returns-2
+returns-2 c = sym (at-one _ _ (omega arith) (omega arith))
+
+returns-3 : tie.Need-returns-3
+returns-3 c = sym (at-refused _ _ (omega arith) (omega arith))
+
+groups-at-requires : tie.Need-groups-at-requires
+groups-at-requires c κs = search needs
+
+returns-4 : tie.Need-returns-4
+returns-4 c = c .groups-at .ensures ∙ sym (at-number _ _ (omega arith) (λ e. omega arith))
+
+pub read-spec : {M : Type 1} → statement M
+read-spec =
+    tie.close
+    (tie.spec
+    returns
+    shared-slice-read-b
+    cast-t8
+    add-t9
+    returns-2
+    returns-3
+    groups-at-requires
+    returns-4)

@@ -1,0 +1,92 @@
+-- What an entry that was read is known to be: it stands at its place, it and its name lie inside the chunk, and its numbers keep the rules.
+-- Assumes nothing.
+use mathlib.Core.Path.{_≡_, refl, subst}
+use mathlib.Core.List.{List}
+use mathlib.Core.Bool.{Bool, true, false, cond, _&&_, _||_}
+use Prim.Native.Nat.{ℕ, _+_, _≤_, _<_}
+use native.Mathlib.Omega.{arith}
+use borrow.Author.Tests.{ltb-true, leb-true}
+use lib.ListN.{length}
+use lib.Dec.{ltb, leb}
+use Rattle.encint.specs.Encint.{encintAt}
+use Rattle.encint.specs.declared.Number.{Number}
+use Rattle.encint.specs.declared.Number.the-variants.{Value, Bad}
+use Rattle.encint.proofs.Reading.{encint-next, bad-no-value}
+use Rattle.entries.specs.Entry.{nameAt, withNumber, listingAt, indexAt, itemAt}
+use Rattle.entries.specs.declared.Limits.{Limits}
+use Rattle.entries.specs.declared.Place.{Place}
+use Rattle.entries.specs.declared.Item.{Item}
+use Rattle.entries.specs.declared.Item.the-variants.{Good}
+
+not-good : {e : Place} → Item.Bad ≡ Good e → ⊥
+not-good q = let z : _≡_ {A = ℕ} 0 1 = cc in omega arith
+
+-- a number was there where what follows on it is not the answer for none
+number-there : {A : Type 0} (r : Number) (d : A) (f : ℕ → ℕ → A) (a : A) → (d ≡ a → ⊥) → withNumber r d f ≡ a → (v : ℕ) × (p : ℕ) × (r ≡ Value v p) × (f v p ≡ a)
+number-there Number.Bad d f a no-d e = absurd (no-d e)
+number-there (Value v p) d f a no-d e = (v, p, refl, e)
+
+-- and so with a test
+test-passed : {A : Type 0} (t : Bool) (x d a : A) → (d ≡ a → ⊥) → cond t x d ≡ a → x ≡ a
+test-passed true x d a no-d e = e
+test-passed false x d a no-d e = absurd (no-d e)
+
+pub name-next : (s : List ℕ) (at n p : ℕ) → nameAt s at ≡ Value n p → (0 < n) × (n ≤ 1024) × (p + n ≤ length s) × (at < p)
+unfolding nameAt
+name-next s at n p e =
+    let r = number-there _ _ _ _ bad-no-value e in
+    tested (r .0) (r .1) (encint-next s at (r .2) .0) (ltb 0 (r .0)) (leb (r .0) 1024) (leb (r .1 + r .0) (length s)) refl refl refl (r .3)
+  where
+    tested : (m q : ℕ) → at < q → (t u w : Bool) → ltb 0 m ≡ t → leb m 1024 ≡ u → leb (q + m) (length s) ≡ w
+        → cond (t && (u && w)) (Value m q) Bad ≡ Value n p → (0 < n) × (n ≤ 1024) × (p + n ≤ length s) × (at < p)
+    tested m q l true true true a b c d =
+        let x : m ≡ n = cc in
+        let y : q ≡ p = cc in
+        omega (arith, ltb-true 0 m a, leb-true m 1024 b, leb-true (q + m) (length s) c)
+    tested m q l true true false a b c d = bad-no-value d
+    tested m q l true false w a b c d = bad-no-value d
+    tested m q l false u w a b c d = bad-no-value d
+
+pub record Inside (s : List ℕ) (at : ℕ) (e : Place) : Type 0 where
+  pub same : e .at ≡ at
+  pub name : e .start + e .len ≤ length s
+  pub some : 0 < e .len
+  pub moves : at < e .next
+  pub ends : e .next ≤ length s
+
+good-same : (x e : Place) → Good x ≡ Good e → x ≡ e
+good-same x e q = cc
+
+inside-of : (s : List ℕ) (at : ℕ) (t : Bool) (x e : Place) → cond t (Good x) Item.Bad ≡ Good e → Inside s at x → Inside s at e
+inside-of s at t x e q h = subst (Inside s at) (good-same x e (test-passed t (Good x) Item.Bad (Good e) not-good q)) h
+
+listing-inside : (content : ℕ) (s : List ℕ) (at : ℕ) (e : Place) → listingAt content s at ≡ Good e → Inside s at e
+unfolding listingAt
+listing-inside content s at e q =
+    let n = number-there _ _ _ _ not-good q in
+    let a = number-there _ _ _ _ not-good (n .3) in
+    let b = number-there _ _ _ _ not-good (a .3) in
+    let d = number-there _ _ _ _ not-good (b .3) in
+    let hn = name-next s at (n .0) (n .1) (n .2) in
+    let ha = encint-next s (n .1 + n .0) (a .2) in
+    let hb = encint-next s (a .1) (b .2) in
+    let hd = encint-next s (b .1) (d .2) in
+    inside-of s at (leb (a .0) 65535 && (ltb 0 (a .0) || leb (b .0 + d .0) content))
+    (record { at = at; start = n .1; len = n .0; section = a .0; offset = b .0; size = d .0; child = 0; next = d .1 }) e (d .3)
+    (record { same = refl; name = omega arith; some = omega arith; moves = omega arith; ends = omega arith })
+
+index-inside : (count : ℕ) (s : List ℕ) (at : ℕ) (e : Place) → indexAt count s at ≡ Good e → Inside s at e
+unfolding indexAt
+index-inside count s at e q =
+    let n = number-there _ _ _ _ not-good q in
+    let a = number-there _ _ _ _ not-good (n .3) in
+    let hn = name-next s at (n .0) (n .1) (n .2) in
+    let ha = encint-next s (n .1 + n .0) (a .2) in
+    inside-of s at (ltb (a .0) count)
+    (record { at = at; start = n .1; len = n .0; section = 0; offset = 0; size = 0; child = a .0; next = a .1 }) e (a .3)
+    (record { same = refl; name = omega arith; some = omega arith; moves = omega arith; ends = omega arith })
+
+pub item-inside : (limits : Limits) (k : Bool) (s : List ℕ) (at : ℕ) (e : Place) → itemAt limits k s at ≡ Good e → Inside s at e
+unfolding itemAt
+item-inside limits true s at e q = listing-inside (limits .content) s at e q
+item-inside limits false s at e q = index-inside (limits .count) s at e q

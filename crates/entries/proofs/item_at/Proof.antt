@@ -1,0 +1,25 @@
+use borrow.Author.Needs.{needs}
+use Rattle.entries.specs.Entry.{itemAt}
+use Rattle.entries.proofs.item_at.Statement.{statement}
+use Rattle.entries.proofs.item_at.Tie as tie
+use Rattle.entries.proofs.item_at.Reads as reads
+use Rattle.entries.proofs.item_at.Lts as lts
+use Rattle.entries.proofs.index_at.Reads as index-at-reads
+use Rattle.entries.proofs.listing_at.Reads as listing-at-reads
+
+listing-at-requires : tie.Need-listing-at-requires
+listing-at-requires c κs = search needs
+
+index-at-requires : tie.Need-index-at-requires
+index-at-requires c κs = search needs
+
+returns : tie.Need-returns
+unfolding itemAt
+returns c = simp (c .before .if1 .taken) (c .listing-at .ensures)
+
+returns-2 : tie.Need-returns-2
+unfolding itemAt
+returns-2 c = simp (c .before .if1 .left) (c .index-at .ensures)
+
+pub item-at-spec : {M : Type 1} → statement M
+item-at-spec = tie.close (tie.spec listing-at-requires index-at-requires returns returns-2)

@@ -1,0 +1,109 @@
+-- Laws of `le` and `bytes`, over every width: bounds, reading in another list, and reading back what was written.
+-- Assumes nothing.
+use mathlib.Core.Path.{_≡_, refl, ap, sym}
+use mathlib.Core.List.{List, [], _∷_, _++_}
+use Prim.Native.Nat.{ℕ, zero, suc, _+_, _-_, _*_, _/_, _%_, _^_, _≤_, _<_}
+use native.Mathlib.Nat.{pow-suc, pow-le-pow-right, lt-of-lt-of-le, add-zero}
+use native.Mathlib.Omega.{arith}
+use lib.Dec.{lit<}
+use lib.ListN.{length, getD, take, drop, length-append}
+use lib.Seq.{sets, getD-append-seam, append-snoc, length-take-le}
+use Rattle.fields.specs.Le.{le, bytes}
+use Rattle.fields.specs.Part.{part}
+use Rattle.fields.proofs.Parts.{past, getD-part}
+use Rattle.fields.proofs.Put.{sets-parts}
+
+-- ---- reading
+
+-- k bytes make a number below 256 ^ k, and below any larger power
+pub le-lt : (s : List ℕ) → ((i : ℕ) → getD s i 0 < 256) → (k at : ℕ) → le k s at < 256 ^ k
+unfolding le
+le-lt s h zero at = lit< tt
+le-lt s h (suc k) at = rw pow-suc (omega (arith, h at, le-lt s h k (at + 1)))
+
+pub le-below : (s : List ℕ) → ((i : ℕ) → getD s i 0 < 256) → (k m at : ℕ) → k ≤ m → le k s at < 256 ^ m
+le-below s h k m at l = lt-of-lt-of-le (le-lt s h k at) (pow-le-pow-right (lit< tt) l)
+
+-- past the end it is 0
+pub le-past : (k : ℕ) (s : List ℕ) (at : ℕ) → length s ≤ at → le k s at ≡ 0
+unfolding le
+le-past zero s at h = refl
+le-past (suc k) s at h = rw (past s at h, le-past k s (at + 1) (omega arith))
+
+-- the same bytes make the same number
+pub le-agree : (k : ℕ) (s t : List ℕ) (a b : ℕ) → ((i : ℕ) → i < k → getD s (a + i) 0 ≡ getD t (b + i) 0) → le k s a ≡ le k t b
+unfolding le
+le-agree zero s t a b h = refl
+le-agree (suc k) s t a b h =
+    let e : getD s a 0 ≡ getD t b 0 = simp add-zero at (h 0 (omega arith)) in
+    let n : (i : ℕ) → i < k → getD s (a + 1 + i) 0 ≡ getD t (b + 1 + i) 0 =
+    λ i l.
+    let x : a + 1 + i ≡ a + (i + 1) = omega arith in
+    let y : b + 1 + i ≡ b + (i + 1) = omega arith in
+    rw (x, y) (h (i + 1) (omega arith))
+    in
+    rw (e, le-agree k s t (a + 1) (b + 1) n)
+
+-- a number inside a part
+pub le-part : (k : ℕ) (s : List ℕ) (at n i : ℕ) → i + k ≤ n → le k (part s at n) i ≡ le k s (at + i)
+le-part k s at n i h =
+    le-agree k (part s at n) s i (at + i)
+    (λ j l. let e : at + i + j ≡ at + (i + j) = omega arith in rw (getD-part s at n (i + j) (omega arith), e))
+
+-- ---- the loop: the bytes from i on are read, highest first
+
+-- none is read
+pub le-none : (s : List ℕ) (at k : ℕ) → le (k - k) s at ≡ 0
+unfolding le
+le-none s at k = let e : k - k ≡ 0 = omega arith in rw e
+
+-- the byte below comes in
+pub le-down : (s : List ℕ) (at k i : ℕ) → 0 < i → i ≤ k → le (k - (i - 1)) s (at + (i - 1)) ≡ getD s (at + (i - 1)) 0 + 256 * le (k - i) s (at + i)
+unfolding le
+le-down s at k i p l =
+    let e : k - (i - 1) ≡ suc (k - i) = omega arith in
+    let f : at + (i - 1) + 1 ≡ at + i = omega arith in
+    rw (e, f)
+
+-- all k are read
+pub le-all : (s : List ℕ) (at k i : ℕ) → i ≤ 0 → le (k - i) s (at + i) ≡ le k s at
+le-all s at k i h =
+    let e : k - i ≡ k = omega arith in
+    let f : at + i ≡ at = omega arith in
+    rw (e, f)
+
+-- ---- the bytes of a number
+
+pub length-bytes : (k v : ℕ) → length (bytes k v) ≡ k
+unfolding bytes
+length-bytes zero v = refl
+length-bytes (suc k) v = ap suc (length-bytes k (v / 256))
+
+-- what is left to be written after i of k bytes
+pub bytes-more : (k i v : ℕ) → i < k → bytes (k - i) v ≡ v % 256 ∷ bytes (k - (i + 1)) (v / 256)
+unfolding bytes
+bytes-more k i v h = let e : k - i ≡ suc (k - (i + 1)) = omega arith in rw e
+
+pub bytes-none : (k i v : ℕ) → k ≤ i → bytes (k - i) v ≡ []
+unfolding bytes
+bytes-none k i v h = let e : k - i ≡ 0 = omega arith in rw e
+
+-- ---- what was written is read back
+
+-- between other bytes
+pub le-bytes : (k v : ℕ) (p q : List ℕ) → v < 256 ^ k → le k (p ++ (bytes k v ++ q)) (length p) ≡ v
+unfolding le bytes
+le-bytes zero v p q h = omega arith
+le-bytes (suc k) v p q h =
+    let b : ℕ = v % 256 in
+    let x : List ℕ = bytes k (v / 256) ++ q in
+    let m : v < 256 ^ k * 256 = rw pow-suc at h in
+    let n : length p + 1 ≡ length (p ++ (b ∷ [])) = sym (length-append p (b ∷ [])) in
+    let r : le k (p ++ (b ∷ x)) (length p + 1) ≡ v / 256 = rw (n, ← append-snoc p b x) (le-bytes k (v / 256) (p ++ (b ∷ [])) q (omega arith)) in
+    rw (getD-append-seam, r) (omega arith)
+
+-- where it was written
+pub read-back : (k v : ℕ) (s : List ℕ) (at : ℕ) → v < 256 ^ k → at + k ≤ length s → le k (sets s at (bytes k v)) at ≡ v
+read-back k v s at h l =
+    let n : length (take at s) ≡ at = length-take-le at s (omega arith) in
+    rw (sets-parts s at (bytes k v) (rw length-bytes l)) (rw n at (le-bytes k v (take at s) (drop (at + length (bytes k v)) s) h))

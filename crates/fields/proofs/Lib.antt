@@ -1,0 +1,5 @@
+pub mod Le
+pub mod Parts
+pub mod Put
+pub mod Same
+pub mod Tests

@@ -1,0 +1,38 @@
+-- Laws of a part of a list.
+-- Assumes nothing.
+use mathlib.Core.Path.{_≡_, refl}
+use mathlib.Core.List.{List, [], _∷_, _++_}
+use Prim.Native.Nat.{ℕ, _+_, _≤_, _<_}
+use native.Mathlib.Numerals.{add-one}
+use native.Mathlib.Omega.{arith}
+use lib.ListN.{length, getD, drop, length-drop, List·getD-eq-default}
+use lib.Seq.{drop-cons, getD-take, getD-drop, length-take-le, take-append-seam, drop-at}
+use borrow.Author.Tests.{le-leb, lt-leb}
+use Rattle.fields.specs.Part.{part, partOf}
+
+-- a place past the end holds 0
+pub past : (s : List ℕ) (i : ℕ) → length s ≤ i → getD s i 0 ≡ 0
+past s i h = List·getD-eq-default s 0 h
+
+-- what stands at i, and what comes after it
+pub drop-more : (s : List ℕ) (i : ℕ) → i < length s → drop i s ≡ getD s i 0 ∷ drop (i + 1) s
+drop-more s i h = rw (add-one, drop-cons s i 0 h)
+
+module _ (s : List ℕ) (at n : ℕ) where
+  pub length-part : at + n ≤ length s → length (part s at n) ≡ n
+  length-part h = length-take-le n (drop at s) (rw length-drop (omega arith))
+
+  pub getD-part : (i : ℕ) → i < n → getD (part s at n) i 0 ≡ getD s (at + i) 0
+  getD-part i h = rw (getD-take, getD-drop)
+
+  pub part-inside : at + n ≤ length s → partOf s at n ≡ part s at n
+  unfolding partOf
+  part-inside h = rw (le-leb _ _ h)
+
+  pub part-outside : length s < at + n → partOf s at n ≡ []
+  unfolding partOf
+  part-outside h = rw (lt-leb _ _ h)
+
+-- the part in the middle
+pub part-middle : (p l q : List ℕ) → part (p ++ (l ++ q)) (length p) (length l) ≡ l
+part-middle p l q = rw (drop-at p (l ++ q) (length p) refl, take-append-seam)

@@ -1,0 +1,106 @@
+-- Writing into a list: laws of `sets`, the bytes written one by one, and of `put`.
+-- Assumes nothing.
+use mathlib.Core.Path.{_≡_, refl, ap, sym, _∙_}
+use mathlib.Core.Bool.{true, false}
+use mathlib.Core.List.{List, [], _∷_, _++_, append-assoc, append-nil}
+use Prim.Native.Nat.{ℕ, suc, _+_, _-_, _≤_, _<_}
+use native.Mathlib.Decide.{decLe}
+use native.Mathlib.Omega.{arith}
+use lib.ListN.{length, take, drop, set, replicate, drop-of-length-le}
+use lib.Seq.{set-comm, sets, sets-eq, length-sets}
+use borrow.Author.Tests.{le-leb, lt-leb}
+use Rattle.fields.specs.Part.{inside}
+use Rattle.fields.specs.Put.{put}
+use Rattle.fields.proofs.Tests.{cond-same}
+
+-- ---- one run
+
+-- the list in three parts
+pub sets-parts : (s : List ℕ) (at : ℕ) (l : List ℕ) → at + length l ≤ length s → sets s at l ≡ take at s ++ (l ++ drop (at + length l) s)
+sets-parts s at l h = sets-eq l s at h ∙ append-assoc (take at s) l (drop (at + length l) s)
+
+-- a run as long as the list takes its place
+pub sets-all : (s l : List ℕ) → length l ≡ length s → sets s 0 l ≡ l
+sets-all s l e =
+    sets-parts s 0 l (omega arith)
+    ∙ ap (λ (r : List ℕ). l ++ r) (drop-of-length-le s {i = 0 + length l} (omega arith))
+    ∙ append-nil l
+
+-- ---- two runs, one behind the other, are one: the first written first, or last
+
+pub sets-after : (s : List ℕ) (at : ℕ) (a b : List ℕ) → sets (sets s at a) (at + length a) b ≡ sets s at (a ++ b)
+sets-after s at [] b = ap (λ (k : ℕ). sets s k b) (omega arith)
+sets-after s at (x ∷ a) b =
+    ap (λ (k : ℕ). sets (sets (set s at x) (suc at) a) k b) (omega arith) ∙ sets-after (set s at x) (suc at) a b
+
+-- a store in front of a run
+pub set-sets : (s : List ℕ) (i x at : ℕ) (l : List ℕ) → i < at → set (sets s at l) i x ≡ sets (set s i x) at l
+set-sets s i x at [] h = refl
+set-sets s i x at (y ∷ l) h =
+    set-sets (set s at y) i x (suc at) l (omega arith)
+    ∙ ap (λ (r : List ℕ). sets r (suc at) l) (set-comm s at i y x (omega arith))
+
+pub sets-before : (s : List ℕ) (at : ℕ) (a b : List ℕ) → sets (sets s (at + length a) b) at a ≡ sets s at (a ++ b)
+sets-before s at [] b = ap (λ (k : ℕ). sets s k b) (omega arith)
+sets-before s at (x ∷ a) b =
+    ap (λ (r : List ℕ). sets r (suc at) a) (set-sets s at x (at + suc (length a)) b (omega arith))
+    ∙ ap (λ (k : ℕ). sets (sets (set s at x) k b) (suc at) a) (omega arith)
+    ∙ sets-before (set s at x) (suc at) a b
+
+-- two calls that each write a run: the second right behind the first, or right before it
+module _ (at k : ℕ) (a b s t u : List ℕ) where
+  pub sets-then : t ≡ sets s at a → k ≡ at + length a → u ≡ sets t k b → u ≡ sets s at (a ++ b)
+  sets-then e h f = f ∙ ap (λ (l : List ℕ). sets l k b) e ∙ ap (λ (i : ℕ). sets (sets s at a) i b) h ∙ sets-after s at a b
+
+  pub sets-then-before : t ≡ sets s k b → k ≡ at + length a → u ≡ sets t at a → u ≡ sets s at (a ++ b)
+  sets-then-before e h f = f ∙ ap (λ (l : List ℕ). sets l at a) e ∙ ap (λ (i : ℕ). sets (sets s i b) at a) h ∙ sets-before s at a b
+
+-- ---- a loop that writes a run byte by byte: what is left to be written makes the whole
+
+-- one turn stores the first byte of what is left
+pub sets-turn : (at i b : ℕ) (bs left out whole : List ℕ) → left ≡ b ∷ bs → sets out (at + i) left ≡ whole
+    → sets (set out (at + i) b) (at + (i + 1)) bs ≡ whole
+sets-turn at i b bs left out whole e h =
+    ap (λ (k : ℕ). sets (set out (at + i) b) k bs) (omega arith) ∙ ap (sets out (at + i)) (sym e) ∙ h
+
+-- nothing is left
+pub sets-end : (at : ℕ) (left out whole : List ℕ) → left ≡ [] → sets out at left ≡ whole → out ≡ whole
+sets-end at left out whole e h = ap (sets out at) (sym e) ∙ h
+
+-- what is left of n equal bytes
+pub replicate-more : (n i x : ℕ) → i < n → replicate (n - i) x ≡ x ∷ replicate (n - (i + 1)) x
+replicate-more n i x h = let e : n - i ≡ suc (n - (i + 1)) = omega arith in rw e
+
+pub replicate-none : (n i x : ℕ) → n ≤ i → replicate (n - i) x ≡ []
+replicate-none n i x h = let e : n - i ≡ 0 = omega arith in rw e
+
+-- ---- a run with room, and without
+
+module _ (s : List ℕ) (at : ℕ) (l : List ℕ) where
+  pub put-inside : at + length l ≤ length s → put s at l ≡ sets s at l
+  unfolding put
+  put-inside h = rw (le-leb _ _ h)
+
+  pub put-outside : length s < at + length l → put s at l ≡ s
+  unfolding put
+  put-outside h = rw (lt-leb _ _ h)
+
+pub put-none : (s : List ℕ) (at : ℕ) (l : List ℕ) → length l ≡ 0 → put s at l ≡ s
+unfolding put
+put-none s at [] h = cond-same (inside s at 0) s
+put-none s at (b ∷ l) h = absurd (omega arith)
+
+-- the test and the list where a run of n bytes has no room, and where it has
+module _ (s : List ℕ) (at n : ℕ) (l : List ℕ) (e : length l ≡ n) where
+  pub put-refused : length s < at + n → (inside s at n ≡ false) × (put s at l ≡ s)
+  put-refused h = (lt-leb _ _ h, put-outside s at l (omega arith))
+
+  pub put-done : at + n ≤ length s → (inside s at n ≡ true) × (put s at l ≡ sets s at l)
+  put-done h = (le-leb _ _ h, put-inside s at l (omega arith))
+
+pub length-put : (s : List ℕ) (at : ℕ) (l : List ℕ) → length (put s at l) ≡ length s
+length-put s at l =
+    elim (decLe (at + length l) (length s)) [
+      | yes h ↦ ap length (put-inside s at l h) ∙ length-sets s at l
+      | no h ↦ ap length (put-outside s at l (omega arith))
+    ]

@@ -1,0 +1,4 @@
+pub mod Le
+pub mod Part
+pub mod Put
+pub mod Same

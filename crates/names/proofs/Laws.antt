@@ -1,0 +1,114 @@
+-- Laws of the order of names, and what follows from the laws of any order.
+-- Assumes nothing.
+use mathlib.Core.Path.{_≡_, refl, sym, ap, _∙_}
+use mathlib.Core.Logic.{_≢_, _⊎_, inl, inr, ⊎-elim}
+use mathlib.Core.Bool.{true, false, false≢true}
+use mathlib.Core.List.{List, [], _∷_}
+use Prim.Native.Nat.{ℕ}
+use Rattle.names.specs.Order.{flip, isLess, isEqual, notGreater, byElement, OrderLaws}
+use Rattle.names.specs.Names.{folded, compared, below, matches}
+use Rattle.names.specs.declared.Order.{Order}
+use Rattle.names.specs.declared.Order.the-variants.{Less, Equal, Greater}
+use Rattle.names.proofs.Orders.{through-laws, numbers-laws, lists-laws}
+pub use Rattle.names.proofs.Orders.{equal-right, less-equal}
+
+pub names-laws : OrderLaws compared
+unfolding compared
+names-laws = lists-laws (through-laws numbers-laws folded)
+
+-- ---- a test of an answer tells the answer; the other way round is `ap isLess`, `ap isEqual`, `ap notGreater`
+
+pub isLess-true : (o : Order) → isLess o ≡ true → o ≡ Less
+isLess-true Less h = refl
+isLess-true Equal h = absurd (false≢true h)
+isLess-true Greater h = absurd (false≢true h)
+
+pub isEqual-true : (o : Order) → isEqual o ≡ true → o ≡ Equal
+isEqual-true Less h = absurd (false≢true h)
+isEqual-true Equal h = refl
+isEqual-true Greater h = absurd (false≢true h)
+
+pub notGreater-false : (o : Order) → notGreater o ≡ false → o ≡ Greater
+notGreater-false Less h = absurd (false≢true (sym h))
+notGreater-false Equal h = absurd (false≢true (sym h))
+notGreater-false Greater h = refl
+
+pub notGreater-true : (o : Order) → notGreater o ≡ true → (o ≡ Less) ⊎ (o ≡ Equal)
+notGreater-true Less h = inl refl
+notGreater-true Equal h = inr refl
+notGreater-true Greater h = absurd (false≢true h)
+
+not-less-flip : (o : Order) → o ≢ Less → notGreater (flip o) ≡ true
+not-less-flip Less h = absurd (h refl)
+not-less-flip Equal h = refl
+not-less-flip Greater h = refl
+
+-- ---- any order
+
+module _ {A : Type 0} {compare : A → A → Order} (L : OrderLaws compare) where
+  -- the other way round
+  pub equal-sym : (a b : A) → compare a b ≡ Equal → compare b a ≡ Equal
+  equal-sym a b p = rw (L .compare-flip a b, p)
+
+  pub flip-less : (a b : A) → compare a b ≡ Less → compare b a ≡ Greater
+  flip-less a b p = rw (L .compare-flip a b, p)
+
+  pub flip-greater : (a b : A) → compare a b ≡ Greater → compare b a ≡ Less
+  flip-greater a b p = rw (L .compare-flip a b, p)
+
+  pub not-less : (a b : A) → compare a b ≢ Less → notGreater (compare b a) ≡ true
+  not-less a b h = rw (L .compare-flip a b) (not-less-flip (compare a b) h)
+
+  pub less-irreflexive : (a : A) → compare a a ≢ Less
+  less-irreflexive a p = let e = L .compare-self a in false≢true (cc)
+
+  -- a to b and b to c
+  pub equal-trans : (a b c : A) → compare a b ≡ Equal → compare b c ≡ Equal → compare a c ≡ Equal
+  equal-trans a b c p q = L .equal-left a b c p ∙ q
+
+  pub equal-less : (a b c : A) → compare a b ≡ Equal → compare b c ≡ Less → compare a c ≡ Less
+  equal-less a b c p q = L .equal-left a b c p ∙ q
+
+  pub less-notGreater : (a b c : A) → compare a b ≡ Less → notGreater (compare b c) ≡ true → compare a c ≡ Less
+  less-notGreater a b c p h = ⊎-elim (L .less-trans a b c p) (less-equal L a b c p) (notGreater-true (compare b c) h)
+
+  pub notGreater-less : (a b c : A) → notGreater (compare a b) ≡ true → compare b c ≡ Less → compare a c ≡ Less
+  notGreater-less a b c h q = ⊎-elim (λ e. L .less-trans a b c e q) (λ e. equal-less a b c e q) (notGreater-true (compare a b) h)
+
+  pub notGreater-trans : (a b c : A) → notGreater (compare a b) ≡ true → notGreater (compare b c) ≡ true → notGreater (compare a c) ≡ true
+  notGreater-trans a b c h k = ⊎-elim (λ e. ap notGreater (less-notGreater a b c e k)) (λ e. rw (L .equal-left a b c e) k) (notGreater-true (compare a b) h)
+
+  -- what is above c stays above it when it grows
+  pub greater-less : (a b c : A) → compare a c ≡ Greater → compare a b ≡ Less → compare b c ≡ Greater
+  greater-less a b c p q = flip-less c b (L .less-trans c a b (flip-greater a c p) q)
+
+-- ---- the tests of names
+
+module _ (a b : List ℕ) where
+  pub below-less : below a b ≡ true → compared a b ≡ Less
+  unfolding below
+  below-less h = isLess-true (compared a b) h
+
+  pub less-below : compared a b ≡ Less → below a b ≡ true
+  unfolding below
+  less-below h = ap isLess h
+
+  pub matches-equal : matches a b ≡ true → compared a b ≡ Equal
+  unfolding matches
+  matches-equal h = isEqual-true (compared a b) h
+
+  pub equal-matches : compared a b ≡ Equal → matches a b ≡ true
+  unfolding matches
+  equal-matches h = ap isEqual h
+
+pub below-trans : (a b c : List ℕ) → below a b ≡ true → below b c ≡ true → below a c ≡ true
+below-trans a b c h k = less-below a c (names-laws .less-trans a b c (below-less a b h) (below-less b c k))
+
+pub below-self : (a : List ℕ) → below a a ≡ false
+unfolding below
+below-self a = ap isLess (names-laws .compare-self a)
+
+-- no bytes come before any name
+pub below-none : (x : ℕ) (a : List ℕ) → below [] (x ∷ a) ≡ true
+unfolding below compared byElement
+below-none x a = refl

@@ -1,0 +1,24 @@
+-- The order of names in a directory (FORMAT, Names).
+-- Assumes nothing.
+use Prim.Native.Nat.{ℕ, _+_}
+use mathlib.Core.Bool.{Bool, cond, _&&_}
+use mathlib.Core.List.{List}
+use lib.Dec.{leb}
+use Rattle.names.specs.Order.{isLess, isEqual, byNumber, byElement}
+use Rattle.names.specs.declared.Order.{Order}
+
+-- a byte as it is compared: 41..5A hex as 61..7A
+unfoldable pub folded : ℕ → ℕ
+folded b = cond (leb 0x41 b && leb b 0x5A) (b + 0x20) b
+
+-- how the name a stands to the name b: byte by byte, folded; a proper beginning comes first
+unfoldable pub compared : List ℕ → List ℕ → Order
+compared a b = byElement (λ x y. byNumber (folded x) (folded y)) a b
+
+-- a comes before b
+unfoldable pub below : List ℕ → List ℕ → Bool
+below a b = isLess (compared a b)
+
+-- a compares equal to b
+unfoldable pub matches : List ℕ → List ℕ → Bool
+matches a b = isEqual (compared a b)

@@ -1,0 +1,62 @@
+use borrow.Author.Needs.{needs}
+use borrow.Author.Tests.{lt-ltb, le-ltb}
+use mathlib.Core.Path.{_≡_, sym, ap, _∙_}
+use Prim.Native.Nat.{_%_, _/_, _<_}
+use native.Mathlib.Omega.{arith}
+use denote.Ref.{now}
+use Rattle.chunk.specs.Chunk.{countOf, spacingOf}
+use Rattle.chunk.proofs.Quick.{capped}
+use Rattle.seek.specs.Seek.{nthIn, afterAt, groupAt}
+use Rattle.seek.proofs.nth_entry.Statement.{statement}
+use Rattle.seek.proofs.nth_entry.Tie as tie
+
+le16-requires : tie.Need-le16-requires
+le16-requires c κs = search needs
+
+cast-total : tie.Need-cast-total
+cast-total c = search needs
+
+returns : tie.Need-returns
+unfolding nthIn
+returns c =
+    let a = c .before .before .before .args in
+    rw (← c .before .le16 .ensures, le-ltb (a .i) (c .before .le16 .result) (omega arith))
+
+spacing-requires : tie.Need-spacing-requires
+spacing-requires c κs = search needs
+
+rem-entry-behind : tie.Need-rem-entry-behind
+rem-entry-behind c = search needs
+
+div-group-at : tie.Need-div-group-at
+div-group-at c = search needs
+
+group-at-requires : tie.Need-group-at-requires
+group-at-requires c κs = search needs
+
+entry-behind-requires : tie.Need-entry-behind-requires
+entry-behind-requires c κs = search needs
+
+returns-2 : tie.Need-returns-2
+unfolding nthIn
+returns-2 c =
+    let n = c .before .before .spacing in
+    let t = c .before .before .before in
+    let a = t .before .before .before .args in
+    let same = capped (a .limits .density) in
+    rw (← t .before .le16 .ensures, lt-ltb (a .i) (t .before .le16 .result) (omega arith), ← same .words (a .i) (omega arith), ← same .rests (a .i) (omega arith), ← n .ensures, ← c .before .group-at .ensures)
+    (c .entry-behind .ensures)
+
+pub nth-entry-spec : {M : Type 1} → statement M
+nth-entry-spec =
+    tie.close
+    (tie.spec
+    le16-requires
+    cast-total
+    returns
+    spacing-requires
+    rem-entry-behind
+    div-group-at
+    group-at-requires
+    entry-behind-requires
+    returns-2)

@@ -1,0 +1,297 @@
+"""A model of one directory chunk by itself, independent of the library.
+
+It follows docs/FORMAT.md (Numbers, Names, Chunk, Entries, refusals 8 to 12)
+with plain lists and unbounded numbers, and shares no code with the library.
+
+  encode, decode                 ENCINTs
+  compare                        the order of names
+  listing_entry, index_entry     the bytes of one entry
+  build_listing, build_index     the bytes of one chunk, good or damaged
+  verdict                        what a chunk is, or why it is refused
+  find, choose, nth              questions to the entries of a good chunk
+"""
+
+CHUNK = 4096
+NONE = 0xFFFFFFFF
+LISTING, INDEX = b'PMGL', b'PMGI'
+HEADER = {LISTING: 20, INDEX: 8}
+
+
+# Numbers
+
+def encode(value):
+    """The ENCINT of a value, in its only (shortest) form."""
+    if not 0 <= value < 1 << 63:
+        raise ValueError('no ENCINT for %d' % value)
+    groups = [value & 0x7F]
+    value >>= 7
+    while value:
+        groups.append(0x80 | value & 0x7F)
+        value >>= 7
+    return bytes(reversed(groups))
+
+
+def decode(data, at=0, end=None):
+    """(value, bytes taken) of the ENCINT at a place, looking at no byte from
+    `end` on; None where there is none."""
+    if end is None:
+        end = len(data)
+    value = 0
+    for taken in range(1, 10):
+        if at + taken > end:
+            return None
+        byte = data[at + taken - 1]
+        if taken == 1 and byte == 0x80:
+            return None
+        value = value * 128 + byte % 128
+        if byte < 0x80:
+            return value, taken
+    return None
+
+
+def little(data, at, width):
+    return int.from_bytes(bytes(data[at:at + width]), 'little')
+
+
+# Names
+
+def fold(byte):
+    return byte + 0x20 if 0x41 <= byte <= 0x5A else byte
+
+
+def compare(a, b):
+    """-1, 0 or 1: name a comes before, is equal to or comes after name b."""
+    for x, y in zip(a, b):
+        if fold(x) != fold(y):
+            return -1 if fold(x) < fold(y) else 1
+    return (len(a) > len(b)) - (len(a) < len(b))
+
+
+# Quick words
+
+def quick_count(c, density):
+    """How many quick words a chunk of c entries has, c at least 1."""
+    if density > 16:            # n is above every count of 16 bits
+        return 0
+    return (c - 1) // (1 + 2 ** density)
+
+
+# Building
+
+def listing_entry(name, section=0, offset=0, length=0):
+    return (encode(len(name)) + bytes(name) + encode(section)
+            + encode(offset) + encode(length))
+
+
+def index_entry(name, child=0):
+    return encode(len(name)) + bytes(name) + encode(child)
+
+
+def build_listing(entries, density, prev=NONE, next=NONE, word=0, **damage):
+    """A listing chunk. An entry is a tuple for listing_entry, or bytes that
+    stand as they are. Entries are not sorted and not checked. See `_build`
+    for the damage."""
+    middle = b''.join(n.to_bytes(4, 'little') for n in (word, prev, next))
+    return _build(LISTING, middle, _raw(entries, listing_entry), density, **damage)
+
+
+def build_index(entries, density, **damage):
+    """An index chunk; entries are tuples for index_entry, or bytes."""
+    return _build(INDEX, b'', _raw(entries, index_entry), density, **damage)
+
+
+def _raw(entries, maker):
+    return [e if isinstance(e, (bytes, bytearray)) else maker(*e) for e in entries]
+
+
+def _build(tag, middle, raw, density, tail=None, slack=0, count=None,
+           words=None, spaced=2, fill=0, gap=b'', as_tag=None, swap=None):
+    """The chunk of these raw entries.
+
+    tail    this tail length instead of the right one
+    slack   tail length less by so many bytes than the free space (the entries
+            then miss the tail by that many, or run into it if negative)
+    count   this entry count instead of the right one
+    words   these quick words instead of the right ones
+    spaced  how many bytes quick words are apart
+    fill    the unused tail bytes: one value, or a function from a length
+    gap     bytes that follow the last entry, in front of any filling
+    as_tag  this tag, with all else as before
+    swap    a pair of entry numbers to exchange before building
+    """
+    raw = list(raw)
+    if swap:
+        i, j = swap
+        raw[i], raw[j] = raw[j], raw[i]
+    header = HEADER[tag]
+    places, at = [], header
+    for r in raw:
+        places.append(at)
+        at += len(r)
+    body = b''.join(raw) + gap
+    if at > CHUNK - 2:
+        raise ValueError('%d bytes of entries do not fit' % (at - header))
+    free = CHUNK - at
+    if tail is None:
+        tail = free - slack
+    if words is None:
+        n = 1 + 2 ** density
+        q = quick_count(len(raw), density) if raw else 0
+        words = [places[k * n] - header for k in range(1, q + 1)]
+    if count is None:
+        count = len(raw)
+    left = CHUNK - header - len(body)
+    rest = fill(left) if callable(fill) else bytes([fill]) * left
+    chunk = bytearray((as_tag or tag) + tail.to_bytes(4, 'little') + middle + body + rest)
+    for k, w in enumerate(words):
+        place = CHUNK - 4 - spaced * k
+        chunk[place:place + 2] = w.to_bytes(2, 'little')
+    chunk[CHUNK - 2:] = count.to_bytes(2, 'little')
+    assert len(chunk) == CHUNK
+    return bytes(chunk)
+
+
+# Judging
+
+def _entry(chunk, at, end, kind, count, content):
+    """((place, name place, name, numbers..), next place) or None."""
+    got = decode(chunk, at, end)
+    if got is None:
+        return None
+    size, taken = got
+    name_at = at + taken
+    if not 1 <= size <= 1024 or name_at + size > end:
+        return None
+    name = bytes(chunk[name_at:name_at + size])
+    next_at, numbers = name_at + size, []
+    for _ in range(3 if kind == LISTING else 1):
+        got = decode(chunk, next_at, end)
+        if got is None:
+            return None
+        numbers.append(got[0])
+        next_at += got[1]
+    if kind == LISTING:
+        section, offset, length = numbers
+        if section > 65535 or section == 0 and offset + length > content:
+            return None
+    elif numbers[0] >= count:
+        return None
+    return (at, name_at, name) + tuple(numbers), next_at
+
+
+def verdict(chunk, density, count, content):
+    """('refused', 8..12), ('listing', previous, next, entries) or
+    ('index', entries). `count` is the directory's number of chunks, `content`
+    the content's length. Checks in the order 8, 9, 10, 12, 11."""
+    kind = bytes(chunk[:4])
+    if len(chunk) != CHUNK or kind not in HEADER:
+        return 'refused', 8
+    header = HEADER[kind]
+    c = little(chunk, CHUNK - 2, 2)
+    tail = little(chunk, 4, 4)
+    if c == 0:
+        return 'refused', 9
+    q = quick_count(c, density)
+    if tail < 2 + 2 * q or tail > CHUNK - header:
+        return 'refused', 9
+    end, at, entries = CHUNK - tail, header, []
+    for _ in range(c):
+        got = _entry(chunk, at, end, kind, count, content)
+        if got is None:
+            return 'refused', 10
+        entries.append(got[0])
+        at = got[1]
+    if at != end:
+        return 'refused', 10
+    for before, after in zip(entries, entries[1:]):
+        if compare(before[2], after[2]) >= 0:
+            return 'refused', 12
+    for k in range(1, q + 1):
+        n = 1 + 2 ** density
+        if little(chunk, CHUNK - 2 - 2 * k, 2) != entries[k * n][0] - entries[0][0]:
+            return 'refused', 11
+    if kind == LISTING:
+        return 'listing', little(chunk, 12, 4), little(chunk, 16, 4), entries
+    return 'index', entries
+
+
+# Asking
+
+def find(entries, name):
+    """The entry whose name compares equal, or None."""
+    for e in entries:
+        if compare(e[2], name) == 0:
+            return e
+    return None
+
+
+def choose(entries, name):
+    """The last entry whose name is not above the asked one, or None."""
+    chosen = None
+    for e in entries:
+        if compare(e[2], name) <= 0:
+            chosen = e
+    return chosen
+
+
+def nth(entries, k):
+    """Entry k, counted from 0, or None."""
+    return entries[k] if 0 <= k < len(entries) else None
+
+
+# Self-test: known values and random chunks
+
+def _self_test(rounds=3000, seed=7):
+    import random
+    r = random.Random(seed)
+    h = bytes.fromhex
+    for text, value in (('00', 0), ('7f', 127), ('8100', 128), ('ea15', 13589),
+                        ('ff7f', 16383), ('818000', 16384),
+                        ('ff' * 8 + '7f', 2 ** 63 - 1)):
+        assert decode(h(text)) == (value, len(text) // 2) and encode(value) == h(text)
+    for text in ('8001', 'ff' * 9 + '7f', '', '81', '80'):
+        assert decode(h(text)) is None
+    assert compare(b'/A', b'/a') == 0 and compare(b'/a', b'/a.htm') == -1
+    assert compare(b'/[', b'/Z') == -1 and compare(b'/Z', b'/[') == 1
+    assert [quick_count(c, 2) for c in (1, 5, 6, 10, 11, 16)] == [0, 0, 1, 1, 2, 3]
+    assert quick_count(65535, 10 ** 9) == 0
+    assert verdict(b'PMGL', 2, 1, 0) == ('refused', 8)
+    for _ in range(rounds):
+        density = r.choice((0, 0, 1, 2, 2, 3, 7))
+        listing = r.random() < 0.5
+        names = []
+        for _ in range(r.choice((1, 2, 5, 6, 40, 200))):
+            size = r.choice((1, 2, 3, 9, r.randint(1, 150), 1024))
+            names.append(bytes(r.choice(b'/aAbBzZ[`{.\x00\x80\xff') for _ in range(size)))
+        names.sort(key=lambda s: bytes(fold(b) for b in s))
+        kept, room = [], CHUNK - 40
+        for s in names:
+            need = len(s) + 2 + 3 + 9 + 9 + 1
+            if need <= room and not (kept and compare(kept[-1], s) == 0):
+                kept.append(s)
+                room -= need
+        if listing:
+            tuples = [(s, r.choice((1, 65535)), r.getrandbits(63), r.getrandbits(r.choice((1, 7, 63))))
+                      if r.random() < .6 else (s, 0, r.randint(0, 50), r.randint(0, 50)) for s in kept]
+            chunk = build_listing(tuples, density, 3, 9, r.getrandbits(32), fill=r.randbytes)
+        else:
+            tuples = [(s, r.randint(0, 299)) for s in kept]
+            chunk = build_index(tuples, density, fill=r.randbytes)
+        good = verdict(chunk, density, 300, 100)
+        entries = good[-1]
+        assert good[0] == ('listing' if listing else 'index'), good
+        assert [(e[2],) + e[3:] for e in entries] == tuples
+        assert all(chunk[e[1]:e[1] + len(e[2])] == e[2] for e in entries)
+        s = r.choice(kept)
+        assert find(entries, s.swapcase())[2] == s and choose(entries, s)[2] == s
+        assert nth(entries, len(entries)) is None and nth(entries, 0) == entries[0]
+        hurt = bytearray(chunk)
+        for _ in range(r.randint(1, 3)):
+            hurt[r.choice((r.randrange(24), r.randrange(4096), 4095 - r.randrange(12)))] = r.randrange(256)
+        again = verdict(bytes(hurt), density, 300, 100)
+        assert again[0] in ('listing', 'index') or 8 <= again[1] <= 12
+    print('self-test: %d chunks' % rounds)
+
+
+if __name__ == '__main__':
+    _self_test()
