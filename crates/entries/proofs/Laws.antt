@@ -90,3 +90,22 @@ pub item-inside : (limits : Limits) (k : Bool) (s : List ℕ) (at : ℕ) (e : Pl
 unfolding itemAt
 item-inside limits true s at e q = listing-inside (limits .content) s at e q
 item-inside limits false s at e q = index-inside (limits .count) s at e q
+
+-- ---- the child of an index entry is below the chunk count
+
+child-of : (count : ℕ) (x e : Place) (t : Bool) → ltb (x .child) count ≡ t → cond t (Good x) Item.Bad ≡ Good e → e .child < count
+child-of count x e true h q = subst (λ (p : Place). p .child < count) (good-same x e q) (ltb-true (x .child) count h)
+child-of count x e false h q = absurd (not-good q)
+
+index-child-at : (count : ℕ) (s : List ℕ) (at : ℕ) (e : Place) → indexAt count s at ≡ Good e → e .child < count
+unfolding indexAt
+index-child-at count s at e q =
+    let n = number-there _ _ _ _ not-good q in
+    let a = number-there _ _ _ _ not-good (n .3) in
+    let hn = name-next s at (n .0) (n .1) (n .2) in
+    let ha = encint-next s (n .1 + n .0) (a .2) in
+    child-of count (record { at = at; start = n .1; len = n .0; section = 0; offset = 0; size = 0; child = a .0; next = a .1 }) e (ltb (a .0) count) refl (a .3)
+
+pub index-child : (limits : Limits) (s : List ℕ) (at : ℕ) (e : Place) → itemAt limits false s at ≡ Good e → e .child < limits .count
+unfolding itemAt
+index-child limits s at e q = index-child-at (limits .count) s at e q

@@ -1,0 +1,29 @@
+use borrow.Author.Needs.{needs}
+use borrow.Author.Tests.{le-ltb, lt-ltb}
+use native.Mathlib.Omega.{arith}
+use Rattle.book.specs.Book.{directoryOf, metChunk}
+use Rattle.book.proofs.met.Statement.{statement}
+use Rattle.book.proofs.met.Tie as tie
+
+returns : tie.Need-returns
+unfolding metChunk
+returns c = let a = c .before .before .before .args in rw (le-ltb (a .c) (a .book .count) (omega arith))
+
+chunk-bytes-requires : tie.Need-chunk-bytes-requires
+chunk-bytes-requires c κs = search needs
+
+limits-requires : tie.Need-limits-requires
+limits-requires c κs = search needs
+
+check-requires : tie.Need-check-requires
+check-requires c κs = search needs
+
+returns-2 : tie.Need-returns-2
+unfolding metChunk directoryOf
+returns-2 c =
+    let a = c .before .before .before .before .before .before .args in
+    rw (lt-ltb (a .c) (a .book .count) (omega arith), ← c .before .limits .ensures, ← c .before .before .chunk-bytes .ensures) (c .check .ensures)
+
+pub met-spec : {M : Type 1} → statement M
+met-spec =
+    tie.close (tie.spec returns chunk-bytes-requires limits-requires check-requires returns-2)

@@ -1,0 +1,137 @@
+// A file as a directory, by the numbers of a record, which may be made up: its chunks, and the places of their entries.
+ghost use mathlib.Core.Path.{_≡_};
+ghost use mathlib.Core.Bool.{cond};
+ghost use Prim.Native.Nat.{_+_, _-_, _/_};
+ghost use lib.Dec.{leb};
+ghost use Rattle.book.specs.Book.{limitsOf, chunkBytes, chunkPlace, bookFits, metChunk, reportAt};
+use chunk::Chunk;
+use entries::Limits;
+use entries::Place;
+use header::Record;
+
+// A refusal's number, and the chunk that it belongs to: FFFFFFFF where it belongs to none.
+pub struct Refusal {
+    pub number: u8,
+    pub chunk: u32,
+}
+
+// The five numbers of an entry: where its name stands in the file, the name's length, section, offset, length.
+pub struct Report {
+    pub place: u64,
+    pub length: u64,
+    pub section: u64,
+    pub offset: u64,
+    pub size: u64,
+}
+
+// Whether a record can be asked; it may be made up.
+pub fn fits(file: &[u8], book: Record) -> bool
+    ensures { λ r. ⌜ r ≡ bookFits (now (file .entry)) book ⌝ }
+{
+    if 7 < book.density {
+        return false;
+    }
+    if book.depth < 1 {
+        return false;
+    }
+    if 5 < book.depth {
+        return false;
+    }
+    if book.count < 1 {
+        return false;
+    }
+    if 4096 < book.count {
+        return false;
+    }
+    book.content <= file.len() as u64
+}
+
+// What the chunks of a file are held to, by a record.
+pub fn limits(file: &[u8], book: Record) -> Limits
+    ensures { λ r. ⌜ r ≡ limitsOf (now (file .entry)) book ⌝ }
+{
+    let len = file.len() as u64;
+    let start = book.content;
+    if len < start {
+        return Limits {
+            density: book.density,
+            count: book.count,
+            content: 0,
+        };
+    }
+    Limits {
+        density: book.density,
+        count: book.count,
+        content: len - start,
+    }
+}
+
+// How many whole chunks stand behind a directory header at `start` in a file of `len` bytes.
+fn chunk_room(len: usize, start: usize) -> usize
+    ensures { λ r. ⌜ r ≡ (len - (start + 84)) / 4096 ⌝ }
+{
+    if len < start {
+        return 0;
+    }
+    if len - start < 84 {
+        return 0;
+    }
+    (len - start - 84) / 4096
+}
+
+// The bytes of chunk c, of the file itself; none where they do not lie inside it. No sum is made before it is known to stay inside.
+pub fn chunk_bytes(file: &[u8], book: Record, c: u64) -> &[u8]
+    ensures { λ r. ⌜ now r ≡ chunkBytes (now (file .entry)) book c ⌝ }
+{
+    let start = book.start as usize;
+    let number = c as usize;
+    if chunk_room(file.len(), start) <= number {
+        return &file[0..0];
+    }
+    let at = start + 84 + 4096 * number;
+    &file[at..at + 4096]
+}
+
+// What chunk number c leads to: a chunk, checked whole, or a refusal.
+pub fn met(file: &[u8], book: Record, c: u64) -> Chunk
+    ensures { λ r. ⌜ r ≡ metChunk (now (file .entry)) book c ⌝ }
+{
+    if book.count <= c {
+        return Chunk::Refused(17);
+    }
+    chunk::check(chunk_bytes(file, book, c), limits(file, book))
+}
+
+// The place in a file of what stands at `start` in chunk c; 0 where that is not inside the file. Each part is known to fit before it is added.
+fn place_in(len: usize, book: Record, c: usize, start: usize) -> u64
+    ensures { λ r. ⌜ r ≡ cond (leb (chunkPlace book c + start) len) (chunkPlace book c + start) 0 ⌝ }
+{
+    let first = book.start as usize;
+    if len < first {
+        return 0;
+    }
+    if len - first < 84 {
+        return 0;
+    }
+    let room = len - first - 84;
+    if room / 4096 < c {
+        return 0;
+    }
+    if room - 4096 * c < start {
+        return 0;
+    }
+    (first + 84 + 4096 * c + start) as u64
+}
+
+// The five numbers of an entry of chunk c.
+pub fn report_of(file: &[u8], book: Record, c: u64, e: Place) -> Report
+    ensures { λ r. ⌜ r ≡ reportAt (now (file .entry)) book c e ⌝ }
+{
+    Report {
+        place: place_in(file.len(), book, c as usize, e.start),
+        length: e.len as u64,
+        section: e.section,
+        offset: e.offset,
+        size: e.size,
+    }
+}

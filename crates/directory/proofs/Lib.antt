@@ -1,0 +1,6 @@
+pub mod Tags
+pub mod Firsts
+pub mod Surveys
+pub mod Chains
+pub mod Visits
+pub mod Links

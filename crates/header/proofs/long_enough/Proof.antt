@@ -1,0 +1,12 @@
+-- `header::long_enough` meets its contract. Assumes nothing.
+use mathlib.Core.Path.{refl}
+use Rattle.header.specs.Header.{longEnough}
+use Rattle.header.proofs.long_enough.Statement.{statement}
+use Rattle.header.proofs.long_enough.Tie as tie
+
+returns : tie.Need-returns
+unfolding longEnough
+returns c = refl
+
+pub long-enough-spec : {M : Type 1} → statement M
+long-enough-spec = tie.close (tie.spec returns)

@@ -1,0 +1,16 @@
+pub mod Lists
+pub mod Counting
+pub mod Alike
+pub mod Rising
+pub mod Chunks
+pub mod Parsed
+pub mod Linked
+pub mod ChainRun
+pub mod Shaped
+pub mod Descended
+pub mod Demanded
+pub mod DepthOne
+pub mod Once
+pub mod Walked
+pub mod Steps
+pub mod Examples

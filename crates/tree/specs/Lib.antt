@@ -1,0 +1,7 @@
+pub mod Lists
+pub mod Shape
+pub mod Chain
+pub mod Tree
+pub mod Walk
+pub mod Descent
+pub mod Demand

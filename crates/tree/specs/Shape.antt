@@ -1,0 +1,72 @@
+-- A directory above its bytes: D gives each chunk number the meaning of that chunk, H has what the directory's header says of chain and tree.
+-- Assumes nothing.
+use mathlib.Core.Path.{_≡_}
+use mathlib.Core.Bool.{Bool, true, false, _&&_, _||_}
+use mathlib.Core.List.{List, []}
+use Prim.Native.Nat.{ℕ, _<_}
+use lib.Dec.{ltb}
+use lib.ListN.{length}
+use Rattle.chunk.specs.Chunk.{Parsed, bad, listing, index, rising, entriesIn, isKind}
+use Rattle.seek.specs.Seek.{Sought, absent, found, nth, final}
+
+-- ---- the header's numbers (FORMAT D8 to D11)
+
+pub record Shape : Type 0 where
+  pub count : ℕ
+  pub depth : ℕ
+  pub root : ℕ
+  pub first : ℕ
+  pub last : ℕ
+
+-- the chunk number that stands for none
+abbrev pub noChunk : ℕ
+noChunk = 0xFFFFFFFF
+
+-- ---- what is asked of a chunk
+
+abbrev pub isListing : Parsed → Bool
+isListing p = isKind true p
+
+abbrev pub isIndex : Parsed → Bool
+isIndex p = isKind false p
+
+-- the previous and the next listing chunk; a chunk of another kind has none
+abbrev pub previousOf : Parsed → ℕ
+previousOf (bad n) = noChunk
+previousOf (listing prev next es) = prev
+previousOf (index es) = noChunk
+
+abbrev pub nextOf : Parsed → ℕ
+nextOf (bad n) = noChunk
+nextOf (listing prev next es) = next
+nextOf (index es) = noChunk
+
+-- the name of an entry that is there; else no bytes
+abbrev pub nameIn : Sought → List ℕ
+nameIn absent = []
+nameIn (found e) = e .name
+
+-- the name of entry 0, and that of the last entry
+abbrev pub firstName : Parsed → List ℕ
+firstName p = nameIn (nth 0 (entriesIn p))
+
+abbrev pub lastName : Parsed → List ℕ
+lastName p = nameIn (final absent (entriesIn p))
+
+-- ---- what is asked of a chunk number: it is below the count, and its chunk is of the kind
+
+unfoldable pub listingChunk : (ℕ → Parsed) → Shape → ℕ → Bool
+listingChunk D H c = ltb c (H .count) && isListing (D c)
+
+unfoldable pub indexChunk : (ℕ → Parsed) → Shape → ℕ → Bool
+indexChunk D H c = ltb c (H .count) && isIndex (D c)
+
+-- ---- what opening knows of every chunk below the count before it looks at chain and tree (FORMAT, Chunk)
+
+pub record GoodChunks (D : ℕ → Parsed) (H : Shape) : Type 0 where
+  -- it is of one of the two kinds,
+  pub good : (c : ℕ) → c < H .count → (isListing (D c) || isIndex (D c)) ≡ true
+  -- has an entry,
+  pub some : (c : ℕ) → c < H .count → 0 < length (entriesIn (D c))
+  -- and its names rise
+  pub rises : (c : ℕ) → c < H .count → rising [] (entriesIn (D c)) ≡ true

@@ -1,0 +1,73 @@
+-- Chain and tree as code with no heap checks them: by counting down, and by a walk over the leaves along the chain.
+-- The laws `chain-run` and `tree-walk` of proofs/ say that these accept exactly what `chainOk` and `treeOk` accept.
+-- Assumes nothing.
+use mathlib.Core.Bool.{Bool, false, cond, _&&_}
+use mathlib.Core.List.{List, [], _∷_}
+use Prim.Native.Nat.{ℕ, zero, suc}
+use lib.Dec.{eqb}
+use Rattle.fields.specs.Same.{same}
+use Rattle.names.specs.Names.{below}
+use Rattle.chunk.specs.Chunk.{Entry, Parsed, entriesIn}
+use Rattle.tree.specs.Lists.{countBelow}
+use Rattle.tree.specs.Shape.{Shape, noChunk, isListing, isIndex, previousOf, nextOf, firstName, lastName, listingChunk, indexChunk}
+use Rattle.tree.specs.Tree.{top}
+
+-- how many chunks below the count are of a kind
+abbrev pub listings : (ℕ → Parsed) → Shape → ℕ
+listings D H = countBelow (H .count) (λ c. isListing (D c))
+
+abbrev pub indexes : (ℕ → Parsed) → Shape → ℕ
+indexes D H = countBelow (H .count) (λ c. isIndex (D c))
+
+-- ---- the chain: one loop
+
+module _ (D : ℕ → Parsed) (H : Shape) where
+  -- chunk c behind p, with k listing chunks not yet met; none of them may be left at the chain's end
+  unfoldable pub chainRun : ℕ → ℕ → ℕ → Bool
+  chainRun zero p c = false
+  chainRun (suc k) p c =
+      listingChunk D H c
+      && (eqb (previousOf (D c)) p
+      && cond (eqb (nextOf (D c)) noChunk)
+      (eqb c (H .last) && eqb k 0)
+      (below (lastName (D c)) (firstName (D (nextOf (D c)))) && chainRun k c (nextOf (D c))))
+
+  unfoldable pub chainRunOk : Bool
+  chainRunOk = chainRun (listings D H) noChunk (H .first)
+
+-- ---- the tree: a function that calls itself for each child
+
+-- the listing chunk that must come next, and how many index chunks are yet to be met
+pub data Progress : Type 0 where
+  stopped : Progress
+  going : ℕ → ℕ → Progress
+
+abbrev pub andThen : Progress → (ℕ → ℕ → Progress) → Progress
+andThen stopped f = stopped
+andThen (going expected left) f = f expected left
+
+-- the whole chain was met, and all index chunks
+abbrev pub arrived : Progress → Bool
+arrived stopped = false
+arrived (going expected left) = eqb expected noChunk && eqb left 0
+
+-- f of the child of an entry, which must have the entry's name for its first
+abbrev pub intoChild : (ℕ → Parsed) → (ℕ → ℕ → ℕ → Progress) → Entry → ℕ → ℕ → Progress
+intoChild D f x expected left = cond (same (x .name) (firstName (D (x .child)))) (f (x .child) expected left) stopped
+
+-- one entry after another, up to one that stops the walk
+abbrev pub visit : (Entry → ℕ → ℕ → Progress) → List Entry → ℕ → ℕ → Progress
+visit step [] expected left = going expected left
+visit step (x ∷ xs) expected left = andThen (step x expected left) (λ e k. visit step xs e k)
+
+module _ (D : ℕ → Parsed) (H : Shape) where
+  -- chunk c of a level
+  unfoldable pub walk : ℕ → ℕ → ℕ → ℕ → Progress
+  walk zero c expected left = stopped
+  walk (suc zero) c expected left = cond (eqb c expected && listingChunk D H c) (going (nextOf (D c)) left) stopped
+  walk (suc (suc l)) c expected zero = stopped
+  walk (suc (suc l)) c expected (suc left) =
+      cond (indexChunk D H c) (visit (intoChild D (λ x e k. walk (suc l) x e k)) (entriesIn (D c)) expected left) stopped
+
+  unfoldable pub treeWalkOk : Bool
+  treeWalkOk = arrived (walk (H .depth) (top H) (H .first) (indexes D H))
