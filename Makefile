@@ -1,14 +1,14 @@
+# make list    the sample book through the listing program
 # make test    every proof from nothing, every must-fail edit, every program, then the host-side tests
-# make check   the sample chunk through the chunk checker
 # make bench   the figures of docs/BENCHMARKS.md
-.PHONY: test check bench
+.PHONY: list test bench
+
+list:
+	@rt check list >/dev/null
+	@target/bin/list < samples/sample.chm
 
 test:
 	@tests/run
-
-check:
-	@rt check check_chunks >/dev/null
-	@target/bin/check_chunks < samples/chunk.bin
 
 bench:
 	@tests/bench

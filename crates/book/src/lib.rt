@@ -3,7 +3,8 @@ ghost use mathlib.Core.Path.{_≡_};
 ghost use mathlib.Core.Bool.{cond};
 ghost use Prim.Native.Nat.{_+_, _-_, _/_};
 ghost use lib.Dec.{leb};
-ghost use Rattle.book.specs.Book.{limitsOf, chunkBytes, chunkPlace, bookFits, metChunk, reportAt};
+ghost use Rattle.book.specs.Book.{limitsOf, chunkBytes, chunkPlace, shapeOf, bookFits, metChunk, reportAt};
+ghost use Rattle.tree.specs.Tree.{top};
 use chunk::Chunk;
 use entries::Limits;
 use entries::Place;
@@ -90,6 +91,16 @@ pub fn chunk_bytes(file: &[u8], book: Record, c: u64) -> &[u8]
     }
     let at = start + 84 + 4096 * number;
     &file[at..at + 4096]
+}
+
+// The chunk that the tree hangs from and that a descent begins at.
+pub fn top_chunk(book: Record) -> u64
+    ensures { λ r. ⌜ r ≡ top (shapeOf book) ⌝ }
+{
+    if book.depth == 1 {
+        return book.first;
+    }
+    book.root
 }
 
 // What chunk number c leads to: a chunk, checked whole, or a refusal.

@@ -4,3 +4,5 @@ pub mod Surveys
 pub mod Chains
 pub mod Visits
 pub mod Links
+pub mod Accepted
+pub mod Refusals

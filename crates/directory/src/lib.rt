@@ -293,22 +293,19 @@ fn walk_tree(file: &[u8], book: Record, level: u64, c: u64, expected: u64, left:
     Progress::Going(next, k)
 }
 
-// The chunk that the tree hangs from.
-fn top_chunk(book: Record) -> u64
-    ensures { λ r. ⌜ r ≡ top (shapeOf book) ⌝ }
-{
-    if book.depth == 1 {
-        return book.first;
-    }
-    book.root
-}
-
 // Whether the tree is right, with so many index chunks in it.
 fn tree_right(file: &[u8], book: Record, indexes: u64) -> bool
     requires { ⌜ GoodBook (now file) book ⌝ }
     ensures { λ r. ⌜ r ≡ arrived (walk (directoryOf (now (file .entry)) book) (shapeOf book) (book .depth) (top (shapeOf book)) (book .first) indexes) ⌝ }
 {
-    match walk_tree(file, book, book.depth, top_chunk(book), book.first, indexes) {
+    match walk_tree(
+        file,
+        book,
+        book.depth,
+        book::top_chunk(book),
+        book.first,
+        indexes,
+    ) {
         Progress::Stopped => false,
         Progress::Going(expected, left) => {
             if expected == 0xFFFF_FFFF {

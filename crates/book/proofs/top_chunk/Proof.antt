@@ -1,7 +1,7 @@
 use borrow.Author.Tests.{eq-eqb, ne-eqb}
 use Rattle.tree.specs.Tree.{top}
-use Rattle.directory.proofs.top_chunk.Statement.{statement}
-use Rattle.directory.proofs.top_chunk.Tie as tie
+use Rattle.book.proofs.top_chunk.Statement.{statement}
+use Rattle.book.proofs.top_chunk.Tie as tie
 
 returns : tie.Need-returns
 unfolding top

@@ -1,0 +1,9 @@
+pub mod Led
+pub mod Read
+pub mod Stepping
+pub mod Writing
+pub mod Paging
+pub mod Run
+pub mod Listed
+pub mod Paged
+pub mod Refusals

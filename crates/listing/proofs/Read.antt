@@ -1,0 +1,117 @@
+-- The entries of a listing chunk that passed its check, as they are read: their count, entry i, and each behind the one before it.
+-- Assumes nothing.
+use mathlib.Core.Path.{_≡_, refl, sym, ap, subst, _∙_}
+use mathlib.Core.Bool.{Bool, true, false, cond}
+use mathlib.Core.List.{List, [], _∷_}
+use Prim.Native.Nat.{ℕ, zero, suc, _+_, _-_, _/_, _%_, _≤_, _<_}
+use native.Mathlib.Omega.{arith}
+use native.Mathlib.Numerals.{add-one}
+use lib.ListN.{length, drop}
+use lib.Seq.{drop-drop}
+use lib.Dec.{ltb}
+use borrow.Author.Tests.{ltb-true}
+use Rattle.entries.specs.Entry.{itemAt}
+use Rattle.entries.specs.declared.Limits.{Limits}
+use Rattle.entries.specs.declared.Place.{Place}
+use Rattle.entries.specs.declared.Item.{Item}
+use Rattle.entries.specs.declared.Item.the-variants.{Good, Bad}
+use Rattle.entries.proofs.Laws.{Inside, item-inside}
+use Rattle.chunk.specs.Chunk.{Entry, all, entryOf, withItem, entriesAt, headOf, countOf, tailOf, spacingOf, entriesIn}
+use Rattle.chunk.proofs.Accepted.{Accepted, accepted, entries-more, entries-count}
+use Rattle.seek.specs.Seek.{Sought, absent, found, nth, soughtOf, afterAt, groupAt, nthIn}
+use Rattle.seek.specs.declared.Hit.{Hit}
+use Rattle.seek.specs.declared.Hit.the-variants.{At, Nothing}
+use Rattle.seek.proofs.Good.{nth-good}
+use Rattle.header.specs.declared.Record.{Record}
+use Rattle.tree.specs.Shape.{isListing}
+use Rattle.book.specs.Book.{limitsOf, chunkBytes, directoryOf, reportOf, reportAt}
+use Rattle.book.proofs.Laws.{chunk-whole, report-entry}
+
+-- ---- an entry that was found was read at a place
+
+-- go by what stands at a place, and keep the equation
+onItem : {P : Type 0} (i : Item) → (i ≡ Bad → P) → ((p : Place) → i ≡ Good p → P) → P
+onItem Bad f g = f refl
+onItem (Good p) f g = g p refl
+
+hit-item : (i : Item) (e : Place) → withItem i Nothing (λ p. At p) ≡ At e → i ≡ Good e
+hit-item Bad e h = absurd (let z : _≡_ {A = ℕ} 0 1 = cc in omega arith)
+hit-item (Good p) e h = ap Good (let z : p ≡ e = cc in z)
+
+after-read : (limits : Limits) (k : Bool) (s : List ℕ) (j at : ℕ) (e : Place) → afterAt limits k s j at ≡ At e
+    → (p : ℕ) × (itemAt limits k s p ≡ Good e)
+unfolding afterAt
+after-read limits k s zero at e h = (at, hit-item (itemAt limits k s at) e h)
+after-read limits k s (suc j) at e h =
+    onItem (itemAt limits k s at)
+    (λ g. absurd (let d : Nothing ≡ At e = rw g at h in let z : _≡_ {A = ℕ} 0 1 = cc in omega arith))
+    (λ p g. after-read limits k s j (p .next) e (rw g at h))
+
+nth-read : (limits : Limits) (k : Bool) (s : List ℕ) (i : ℕ) (e : Place) → nthIn limits k s i ≡ At e
+    → (i < countOf s) × (p : ℕ) × (itemAt limits k s p ≡ Good e)
+unfolding nthIn
+nth-read limits k s i e h = go (ltb i (countOf s)) refl h
+  where
+    n : ℕ
+    n = spacingOf (limits .density)
+
+    go : (t : Bool) → ltb i (countOf s) ≡ t → cond t (afterAt limits k s (i % n) (groupAt k s (i / n))) Nothing ≡ At e
+        → (i < countOf s) × (p : ℕ) × (itemAt limits k s p ≡ Good e)
+    go true l d = let r = after-read limits k s _ _ e d in (ltb-true _ _ l, r .0, r .1)
+    go false l d = absurd (let z : _≡_ {A = ℕ} 0 1 = cc in omega arith)
+
+-- ---- entries that are left: those from entry i on
+
+pub left-more : (limits : Limits) (s : List ℕ) (end n i at : ℕ) (es : List Entry) → i < n → entriesAt limits true s end (n - i) at ≡ all (drop i es)
+    → (p : Place) × (itemAt limits true s at ≡ Good p) × (drop i es ≡ entryOf s p ∷ drop (i + 1) es)
+    × (entriesAt limits true s end (n - (i + 1)) (p .next) ≡ all (drop (i + 1) es))
+left-more limits s end n i at es l e =
+    let q : n - i ≡ suc (n - (i + 1)) = omega arith in
+    let m = entries-more limits true s end (n - (i + 1)) at (drop i es) (rw q at e) in
+    let r : drop (i + 1) es ≡ m .1 = sym (drop-drop 1 i es) ∙ ap (drop 1) (m .3) in
+    (m .0, m .2, m .3 ∙ ap (λ xs. entryOf s (m .0) ∷ xs) (sym r), m .4 ∙ ap all (sym r))
+
+-- ---- a listing chunk of a book
+
+module _ (s : List ℕ) (book : Record) (c : ℕ) (is : isListing (directoryOf s book c) ≡ true) where
+  -- the bytes of the chunk, what they are held to, and their entries
+  abbrev bytes : List ℕ
+  bytes = chunkBytes s book c
+
+  abbrev limits : Limits
+  limits = limitsOf s book
+
+  abbrev es : List Entry
+  es = entriesIn (directoryOf s book c)
+
+  good : Accepted limits true bytes es
+  unfolding directoryOf
+  good = accepted limits true bytes is
+
+  pub entries-length : length es ≡ countOf bytes
+  entries-length = entries-count limits true bytes (4096 - tailOf bytes) (countOf bytes) 20 es (good .entries)
+
+  pub entries-some : 0 < length es
+  entries-some = let l = entries-length in let g = good .some in omega arith
+
+  -- all of them are left at first
+  pub entries-left : entriesAt limits true bytes (4096 - tailOf bytes) (countOf bytes - 0) 20 ≡ all es
+  entries-left = let z : countOf bytes - 0 ≡ countOf bytes = omega arith in rw z (good .entries)
+
+  -- what was read is reported as its entry says
+  pub read-reported : (at : ℕ) (e : Place) → itemAt limits true bytes at ≡ Good e → reportAt s book c e ≡ reportOf book c (entryOf bytes e)
+  read-reported at e h =
+      let z = good .size in
+      let i = item-inside limits true bytes at e h .name in
+      report-entry s book c e (chunk-whole s book c true is) (omega arith)
+
+  pub nth-hit : (i : ℕ) (e : Place) → nthIn limits true bytes i ≡ At e
+      → (i < countOf bytes) × (nth i es ≡ found (entryOf bytes e)) × (reportAt s book c e ≡ reportOf book c (entryOf bytes e))
+  unfolding directoryOf
+  nth-hit i e h =
+      let r = nth-read limits true bytes i e h in
+      (r .0, sym (nth-good limits bytes true i is) ∙ ap (soughtOf bytes) h, read-reported (r .1) e (r .2))
+
+  pub nth-nothing : (i : ℕ) → nthIn limits true bytes i ≡ Nothing → nth i es ≡ absent
+  unfolding directoryOf
+  nth-nothing i h = sym (nth-good limits bytes true i is) ∙ ap (soughtOf bytes) h

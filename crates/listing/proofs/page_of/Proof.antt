@@ -1,0 +1,140 @@
+use borrow.Author.Needs.{needs}
+use mathlib.Core.Path.{_≡_, sym, ap, _∙_}
+use mathlib.Core.Bool.{true}
+use native.Mathlib.Omega.{arith}
+use denote.Ref.{now}
+use Rattle.fields.proofs.Tests.{held, failed}
+use Rattle.chunk.specs.Chunk.{countOf}
+use Rattle.tree.specs.Shape.{isListing, nextOf, listingChunk}
+use Rattle.book.specs.Book.{chunkBytes, directoryOf, shapeOf, bookFits}
+use Rattle.listing.specs.declared.Page.the-variants.{Refused}
+use Rattle.listing.proofs.Led.{met-listing, met-index, met-refused}
+use Rattle.listing.proofs.Paging.{page-unfit, page-other, page-short, page-done}
+use Rattle.listing.proofs.page_of.Statement.{statement}
+use Rattle.listing.proofs.page_of.Tie as tie
+
+fits-is : (c : tie.Else1) → let a = c .before .before .before .before .args in bookFits (now (a .file)) (a .book) ≡ true
+fits-is c = held (c .before .fits2 .ensures) (c .if1 .left)
+
+-- the chunk that was met is a listing chunk, with the next that the code has
+met-is : (c : tie.After-known-told) → let a = c .before .before .before .before .before .before .before .before .args in
+    (listingChunk (directoryOf (now (a .file)) (a .book)) (shapeOf (a .book)) (a .chunk) ≡ true)
+    × (isListing (directoryOf (now (a .file)) (a .book) (a .chunk)) ≡ true)
+    × (nextOf (directoryOf (now (a .file)) (a .book) (a .chunk)) ≡ c .before .next .given .0 .1 .0)
+met-is c = met-listing _ _ _ _ _ (sym (c .before .before .before .met .ensures) ∙ c .before .next .given .1)
+
+count-is : (c : tie.After-le16) → let a = c .before .before .before .before .before .before .before .before .before .before .args in
+    c .le16 .result ≡ countOf (chunkBytes (now (a .file)) (a .book) (a .chunk))
+count-is c = rw (← c .before .chunk-bytes .ensures) (c .le16 .ensures)
+
+fits-requires : tie.Need-fits-requires
+fits-requires c κs = search needs
+
+no-listing-requires : tie.Need-no-listing-requires
+no-listing-requires c κs = search needs
+
+returns : tie.Need-returns
+returns c =
+    let a = c .before .before .before .before .before .args in
+    let r = page-unfit (now (a .file)) (a .book) (a .chunk) (now (a .out)) (failed (c .before .before .fits2 .ensures) (c .before .if1 .taken)) in
+    (ap Refused (c .no-listing .ensures) ∙ r .0, r .1)
+
+met-requires : tie.Need-met-requires
+met-requires c κs = search needs
+
+enum-known-next : tie.Need-enum-known-next
+enum-known-next c = search needs
+
+enum-told : tie.Need-enum-told
+enum-told c = search needs
+
+no-listing-requires-2 : tie.Need-no-listing-requires-2
+no-listing-requires-2 c κs = search needs
+
+returns-2 : tie.Need-returns-2
+returns-2 c =
+    let m = c .before .before .before in
+    let a = m .before .before .before .before .before .args in
+    let o = met-index (now (a .file)) (a .book) (a .chunk) (sym (m .met .ensures) ∙ c .before .enum-told .given .1) in
+    let r = page-other (now (a .file)) (a .book) (a .chunk) (now (a .out)) (fits-is (m .before)) o in
+    (ap Refused (c .no-listing2 .ensures) ∙ r .0, r .1)
+
+enum-told-2 : tie.Need-enum-told-2
+enum-told-2 c = search needs
+
+no-listing-requires-3 : tie.Need-no-listing-requires-3
+no-listing-requires-3 c κs = search needs
+
+returns-3 : tie.Need-returns-3
+returns-3 c =
+    let m = c .before .before .before in
+    let a = m .before .before .before .before .before .args in
+    let o = met-refused (now (a .file)) (a .book) (a .chunk) _ (sym (m .met .ensures) ∙ c .before .enum-told2 .given .1) in
+    let r = page-other (now (a .file)) (a .book) (a .chunk) (now (a .out)) (fits-is (m .before)) o in
+    (ap Refused (c .no-listing3 .ensures) ∙ r .0, r .1)
+
+chunk-bytes-requires : tie.Need-chunk-bytes-requires
+chunk-bytes-requires c κs = search needs
+
+le16-requires : tie.Need-le16-requires
+le16-requires c κs = search needs
+
+cast-total : tie.Need-cast-total
+cast-total c = search needs
+
+cast-if2 : tie.Need-cast-if2
+cast-if2 c = search needs
+
+mul-if2 : tie.Need-mul-if2
+mul-if2 c = search needs
+
+returns-4 : tie.Need-returns-4
+returns-4 c =
+    let l = c .before in
+    let k = l .before .before in
+    let e = k .before .before .before .before in
+    let a = e .before .before .before .before .args in
+    page-short (now (a .file)) (a .book) (a .chunk) (now (a .out)) (fits-is e) (met-is k .0) (l .le16 .result) (count-is l) (c .if2 .taken)
+
+put-entries-requires : tie.Need-put-entries-requires
+put-entries-requires c κs =
+    let l = c .before .before in
+    let n = count-is l in
+    (met-is (l .before .before) .1, omega arith)
+
+same-length : tie.Need-same-length
+same-length c = search needs
+
+returns-5 : tie.Need-returns-5
+returns-5 c =
+    let l = c .before .before .before .before .before in
+    let k = l .before .before in
+    let e = k .before .before .before .before in
+    let a = e .before .before .before .before .args in
+    page-done (now (a .file)) (a .book) (a .chunk) (now (a .out)) (fits-is e) (met-is k .0) (l .le16 .result) (count-is l)
+    (c .before .before .before .before .if2 .left) _ (met-is k .2) _ (c .before .before .put-entries .ensures)
+
+pub page-of-spec : {M : Type 1} → statement M
+page-of-spec =
+    tie.close
+    (tie.spec
+    fits-requires
+    no-listing-requires
+    returns
+    met-requires
+    enum-known-next
+    enum-told
+    no-listing-requires-2
+    returns-2
+    enum-told-2
+    no-listing-requires-3
+    returns-3
+    chunk-bytes-requires
+    le16-requires
+    cast-total
+    cast-if2
+    mul-if2
+    returns-4
+    put-entries-requires
+    same-length
+    returns-5)

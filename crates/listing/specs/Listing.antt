@@ -1,0 +1,94 @@
+-- Listing: the cursor, the answer of a step, and a page, which is all entries of one chunk (FORMAT K7 to K13).
+-- Assumes nothing.
+use Prim.Native.Nat.{ℕ, _+_, _*_}
+use mathlib.Core.Bool.{Bool, cond, _&&_}
+use mathlib.Core.List.{List, [], _∷_, map, flatMap}
+use lib.ListN.{length}
+use lib.Seq.{sets}
+use lib.Dec.{ltb, leb, eqb}
+use Rattle.chunk.specs.Chunk.{Parsed, entriesIn}
+use Rattle.seek.specs.Seek.{Sought, absent, found, nth}
+use Rattle.header.specs.declared.Record.{Record}
+use Rattle.tree.specs.Shape.{noChunk, nextOf, listingChunk}
+use Rattle.book.specs.Book.{directoryOf, shapeOf, bookFits, reportOf}
+use Rattle.book.specs.declared.Refusal.{Refusal}
+use Rattle.book.specs.declared.Report.{Report}
+use Rattle.listing.specs.declared.Cursor.{Cursor}
+use Rattle.listing.specs.declared.Step.{Step}
+use Rattle.listing.specs.declared.Step.the-variants.{End}
+use Rattle.listing.specs.declared.Page.{Page}
+use Rattle.listing.specs.declared.Page.the-variants.{Entries, Short}
+
+-- the one refusal of listing; it belongs to no chunk (R17, RO7)
+abbrev pub refusal : Refusal
+refusal = record { number = 17; chunk = noChunk }
+
+-- ---- the cursor
+
+-- at entry i of chunk c (K8)
+abbrev pub cursorAt : ℕ → ℕ → Cursor
+cursorAt c i = record { chunk = c; entry = i }
+
+-- where it starts: entry 0 of the first listing chunk (K8)
+abbrev pub startOf : Record → Cursor
+startOf book = cursorAt (book .first) 0
+
+-- one entry on from entry i of chunk c, which is p: behind the last entry, entry 0 of its next chunk, as stored (K9)
+unfoldable pub movedOn : Parsed → ℕ → ℕ → Cursor
+movedOn p c i = cond (ltb (i + 1) (length (entriesIn p))) (cursorAt c (i + 1)) (cursorAt (nextOf p) 0)
+
+-- ---- a step
+
+-- the entry that is there, reported (K7), and the cursor moved on
+abbrev pub stepOf : Record → Parsed → ℕ → ℕ → Sought → Step
+stepOf book p c i absent = Step.Refused refusal
+stepOf book p c i (found e) = Step.Entry (reportOf book c e) (movedOn p c i)
+
+-- at a cursor in a chunk that is p: 17 where it lacks the entry (K13)
+unfoldable pub entryStep : Record → Parsed → Cursor → Step
+entryStep book p at = stepOf book p (at .chunk) (at .entry) (nth (at .entry) (entriesIn p))
+
+-- the record first (K12), then the end, with any entry number (K10), then the chunk and the entry (K11, K13)
+unfoldable pub stepped : List ℕ → Record → Cursor → Step
+stepped s book at =
+    cond (bookFits s book)
+    (cond (eqb (at .chunk) noChunk)
+    (End at)
+    (cond (listingChunk (directoryOf s book) (shapeOf book) (at .chunk))
+    (entryStep book (directoryOf s book (at .chunk)) at)
+    (Step.Refused refusal)))
+    (Step.Refused refusal)
+
+-- ---- a page
+
+-- the five numbers of a report in their order (K6, K7)
+abbrev pub fiveOf : Report → List ℕ
+fiveOf r = r .place ∷ r .length ∷ r .section ∷ r .offset ∷ r .size ∷ []
+
+-- those of some reports, one behind another
+unfoldable pub numbersOf : List Report → List ℕ
+numbersOf rs = flatMap fiveOf rs
+
+-- the reports of all entries of chunk c
+abbrev pub reportsIn : List ℕ → Record → ℕ → List Report
+reportsIn s book c = map (reportOf book c) (entriesIn (directoryOf s book c))
+
+module _ (s : List ℕ) (book : Record) (c : ℕ) where
+  -- chunk c can be listed: the record can be asked, and c is a listing chunk below the count (K12, K13)
+  unfoldable pub canList : Bool
+  canList = bookFits s book && listingChunk (directoryOf s book) (shapeOf book) c
+
+  -- its entries have room in n places
+  unfoldable pub hasRoom : ℕ → Bool
+  hasRoom n = leb (5 * length (entriesIn (directoryOf s book c))) n
+
+  -- the answer for a slice of n places: the count of the entries, and the chunk's next as stored
+  unfoldable pub pageOf : ℕ → Page
+  pageOf n =
+      cond canList
+      (cond (hasRoom n) (Entries (length (entriesIn (directoryOf s book c))) (nextOf (directoryOf s book c))) Short)
+      (Page.Refused refusal)
+
+  -- the slice t with the entries' numbers from place 0 on; t itself where they are refused (RO8) or have no room
+  unfoldable pub pageIn : List ℕ → List ℕ
+  pageIn t = cond (canList && hasRoom (length t)) (sets t 0 (numbersOf (reportsIn s book c))) t

@@ -1,0 +1,75 @@
+-- Several steps: what they report, and where they come to. The listing of a whole book, and what steps and pages promise of it.
+-- Assumes nothing.
+use Prim.Native.Nat.{ℕ, zero, suc, _+_, _<_}
+use mathlib.Core.Path.{_≡_}
+use mathlib.Core.List.{List, [], _∷_, _++_, flatMap}
+use lib.ListN.{length, take}
+use lib.Seq.{sets}
+use Rattle.header.specs.declared.Record.{Record}
+use Rattle.tree.specs.Shape.{noChunk}
+use Rattle.tree.specs.Chain.{chain}
+use Rattle.tree.specs.Demand.{Listed}
+use Rattle.book.specs.Book.{directoryOf, shapeOf}
+use Rattle.book.specs.declared.Report.{Report}
+use Rattle.listing.specs.Listing.{cursorAt, startOf, stepped, numbersOf, reportsIn, pageIn}
+use Rattle.listing.specs.declared.Cursor.{Cursor}
+use Rattle.listing.specs.declared.Step.{Step}
+use Rattle.listing.specs.declared.Step.the-variants.{Entry, End, Refused}
+
+-- ---- steps, each at the cursor that the one before handed back
+
+-- what a step reports: an entry, or none
+abbrev pub reportIn : Step → List Report
+reportIn (Entry r at) = r ∷ []
+reportIn (End at) = []
+reportIn (Refused n) = []
+
+-- the cursor that a step at `at` hands back; a refusal hands none back, and so leaves the one there was
+abbrev pub cursorIn : Cursor → Step → Cursor
+cursorIn at (Entry r next) = next
+cursorIn at (End next) = next
+cursorIn at (Refused n) = at
+
+module _ (s : List ℕ) (book : Record) where
+  -- what n steps from a cursor report
+  unfoldable pub stepsFrom : ℕ → Cursor → List Report
+  stepsFrom zero at = []
+  stepsFrom (suc n) at = reportIn (stepped s book at) ++ stepsFrom n (cursorIn at (stepped s book at))
+
+  -- the cursor after n steps
+  unfoldable pub cursorAfter : ℕ → Cursor → Cursor
+  cursorAfter zero at = at
+  cursorAfter (suc n) at = cursorAfter n (cursorIn at (stepped s book at))
+
+  -- ---- the whole listing: every entry of every chunk of the chain, in order
+
+  unfoldable pub wholeListing : List Report
+  wholeListing = flatMap (reportsIn s book) (chain (directoryOf s book) (shapeOf book))
+
+  -- the cursor after as many steps as it has entries
+  unfoldable pub lastCursor : Cursor
+  lastCursor = cursorAfter (length wholeListing) (startOf book)
+
+-- the steps from the start report exactly the whole listing, and then the end
+pub record ListingExact (s : List ℕ) (book : Record) : Type 0 where
+  -- as many steps as it has entries report it,
+  pub reports : stepsFrom s book (length (wholeListing s book)) (startOf book) ≡ wholeListing s book
+  -- an entry at each step, in order, and steps beyond report none;
+  pub each : (n : ℕ) → stepsFrom s book n (startOf book) ≡ take n (wholeListing s book)
+  -- behind the last entry is the end (K10),
+  pub ends : lastCursor s book .chunk ≡ noChunk
+  -- where every further step says so and hands the same cursor back
+  pub stays : (n : ℕ) → stepped s book (cursorAfter s book n (lastCursor s book)) ≡ End (lastCursor s book)
+  -- the chain has every listing chunk below the count, each once, and the names of its entries rise
+  pub complete : Listed (directoryOf s book) (shapeOf book)
+
+-- ---- a page of n entries in the slice t, with its next chunk, and the steps in chunk c
+
+pub record PageSteps (s : List ℕ) (book : Record) (c : ℕ) (t : List ℕ) (n next : ℕ) : Type 0 where
+  -- n steps from entry 0 on report n entries, whose numbers are those of the page, five by five;
+  pub count : length (stepsFrom s book n (cursorAt c 0)) ≡ n
+  pub numbers : pageIn s book c t ≡ sets t 0 (numbersOf (stepsFrom s book n (cursorAt c 0)))
+  -- each of them is in the chunk,
+  pub inside : (i : ℕ) → i < n → cursorAfter s book i (cursorAt c 0) ≡ cursorAt c i
+  -- and behind the last is entry 0 of the page's next chunk
+  pub behind : cursorAfter s book n (cursorAt c 0) ≡ cursorAt next 0

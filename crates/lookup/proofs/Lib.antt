@@ -1,0 +1,7 @@
+pub mod Meeting
+pub mod Steps
+pub mod Trail
+pub mod Descending
+pub mod Complete
+pub mod Promised
+pub mod Refusals

@@ -1,0 +1,78 @@
+-- What `lookup` promises, from its checks and from the descent.
+-- Assumes nothing.
+use mathlib.Core.Path.{_≡_, refl, sym, ap, _∙_}
+use mathlib.Core.Bool.{true, false, _&&_}
+use mathlib.Core.List.{List}
+use Prim.Native.Nat.{ℕ, _+_, _≤_, _<_}
+use native.Mathlib.Omega.{arith}
+use lib.ListN.{length}
+use lib.Dec.{leb}
+use borrow.Author.Tests.{le-leb, lt-leb, leb-true}
+use Rattle.fields.proofs.Tests.{and-both}
+use Rattle.header.specs.Header.{within}
+use Rattle.header.specs.declared.Record.{Record}
+use Rattle.tree.specs.Tree.{top}
+use Rattle.tree.specs.Descent.{outcome, trail}
+use Rattle.book.specs.Book.{shapeOf, bookFits}
+use Rattle.directory.specs.Opened.{opened}
+use Rattle.directory.specs.declared.Opened.the-variants.{Book}
+use Rattle.lookup.specs.Lookup.{trailIn, outcomeIn, refusal, answerOf, nameFits, lookedUp, trailAfter}
+use Rattle.lookup.specs.Step.{Descended}
+use Rattle.lookup.specs.Complete.{Complete}
+use Rattle.lookup.specs.declared.Answer.{Answer}
+use Rattle.lookup.proofs.Complete.{complete}
+
+-- a record that can be asked has few chunks and levels
+pub fits-told : (s : List ℕ) (book : Record) → bookFits s book ≡ true → (book .count ≤ 4096) × (1 ≤ book .depth) × (book .depth ≤ 5)
+unfolding bookFits
+fits-told s book h =
+    let levels = within 1 5 (book .depth) in
+    let chunks = within 1 4096 (book .count) in
+    let inside = leb (book .content) (length s) in
+    let a = and-both levels (chunks && inside) (and-both (leb (book .density) 7) (levels && (chunks && inside)) h .1) in
+    let b = and-both (leb 1 (book .depth)) (leb (book .depth) 5) (a .0) in
+    let c = and-both (leb 1 (book .count)) (leb (book .count) 4096) (and-both chunks inside (a .1) .0) in
+    (leb-true (book .count) 4096 (c .1), leb-true 1 (book .depth) (b .0), leb-true (book .depth) 5 (b .1))
+
+module _ (s : List ℕ) (book : Record) (name was : List ℕ) where
+  -- the three clauses
+  abbrev pub Promised : Answer → List ℕ → Type 0
+  Promised r is =
+      (r ≡ lookedUp s book name (length was))
+      × ((is ≡ trailAfter s book name was)
+      × (opened s ≡ Book book → 1 ≤ length name → length name ≤ 1024 → 5 ≤ length was → Complete s book name was r is))
+
+  -- the third follows from the others
+  promised : (r : Answer) (is : List ℕ) → r ≡ lookedUp s book name (length was) → is ≡ trailAfter s book name was → Promised r is
+  promised r is p q = (p, (q, λ o a b c. rw (p, q) (complete s book name was o a b c)))
+
+  -- ---- a refusal
+
+  refuses : (n : ℕ) (r : Answer) → r ≡ refusal n → lookedUp s book name (length was) ≡ refusal n → Promised r was
+  unfolding trailAfter
+  refuses n r p q = promised r was (p ∙ sym q) (rw q refl)
+
+  pub name-bad : (r : Answer) → nameFits name ≡ false → r ≡ refusal 15 → Promised r was
+  unfolding lookedUp
+  name-bad r h p = refuses 15 r p (rw h refl)
+
+  module _ (good : nameFits name ≡ true) where
+    pub trail-short : (r : Answer) → length was < 5 → r ≡ refusal 16 → Promised r was
+    unfolding lookedUp
+    trail-short r h p = refuses 16 r p (rw (good, lt-leb 5 (length was) h) refl)
+
+    module _ (room : 5 ≤ length was) where
+      pub record-bad : (r : Answer) → bookFits s book ≡ false → r ≡ refusal 17 → Promised r was
+      unfolding lookedUp
+      record-bad r h p = refuses 17 r p (rw (good, le-leb 5 (length was) room, h) refl)
+
+      -- ---- the descent
+
+      pub descended : (r : Answer) (is : List ℕ) → bookFits s book ≡ true → Descended s book name (book .depth) (top (shapeOf book)) 0 was r is → Promised r is
+      unfolding lookedUp trailAfter outcome trail
+      descended r is h d =
+          let z : 0 + length (trailIn s book name) ≡ length (trailIn s book name) = omega arith in
+          let p : r ≡ lookedUp s book name (length was) =
+          rw (good, le-leb 5 (length was) room, h)
+          (d .answer ∙ ap (λ (n : ℕ). answerOf book n (outcomeIn s book name)) z) in
+          promised r is p (rw (← p) (d .places))

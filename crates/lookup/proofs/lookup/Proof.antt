@@ -1,0 +1,84 @@
+use native.Mathlib.Omega.{arith}
+use denote.Ref.{now}
+use borrow.Author.Needs.{needs}
+use Rattle.fields.proofs.Tests.{held, failed}
+use Rattle.lookup.proofs.Promised.{fits-told, name-bad, trail-short, record-bad, descended}
+use Rattle.lookup.proofs.lookup.Statement.{statement}
+use Rattle.lookup.proofs.lookup.Tie as tie
+
+name-fits-requires : tie.Need-name-fits-requires
+name-fits-requires c κs = search needs
+
+fits-requires : tie.Need-fits-requires
+fits-requires c κs = search needs
+
+refused-requires : tie.Need-refused-requires
+refused-requires c κs = search needs
+
+returns : tie.Need-returns
+returns c =
+    let f = c .before .before in
+    let a = f .before .before .before .before .before .args in
+    name-bad (now (a .file)) (a .book) (now (a .name)) (now (a .trail)) (c .refused .result) (failed (f .before .name-fits .ensures) (c .before .if1 .taken)) (c .refused .ensures)
+
+refused-requires-2 : tie.Need-refused-requires-2
+refused-requires-2 c κs = search needs
+
+returns-2 : tie.Need-returns-2
+returns-2 c =
+    let e = c .before .before in
+    let f = e .before in
+    let a = f .before .before .before .before .before .args in
+    trail-short (now (a .file)) (a .book) (now (a .name)) (now (a .trail)) (held (f .before .name-fits .ensures) (e .if1 .left)) (c .refused2 .result) (omega arith) (c .refused2 .ensures)
+
+refused-requires-3 : tie.Need-refused-requires-3
+refused-requires-3 c κs = search needs
+
+returns-3 : tie.Need-returns-3
+returns-3 c =
+    let e = c .before .before in
+    let f = e .before .before in
+    let a = f .before .before .before .before .before .args in
+    record-bad (now (a .file)) (a .book) (now (a .name)) (now (a .trail)) (held (f .before .name-fits .ensures) (e .before .if1 .left)) (omega arith) (c .refused3 .result)
+    (failed (f .fits2 .ensures) (c .before .if3 .taken)) (c .refused3 .ensures)
+
+top-chunk-requires : tie.Need-top-chunk-requires
+top-chunk-requires c κs = search needs
+
+descend-requires : tie.Need-descend-requires
+descend-requires c κs =
+    let e = c .before .before in
+    let f = e .before .before .before in
+    let a = f .before .before .before .before .before .args in
+    let h = fits-told (now (a .file)) (a .book) (held (f .fits2 .ensures) (e .if3 .left)) in
+    search needs
+
+same-length : tie.Need-same-length
+same-length c = search needs
+
+returns-4 : tie.Need-returns-4
+returns-4 c =
+    let d = c .before .before in
+    let t = d .before .before in
+    let e = t .before in
+    let f = e .before .before .before in
+    let a = f .before .before .before .before .before .args in
+    descended (now (a .file)) (a .book) (now (a .name)) (now (a .trail)) (held (f .before .name-fits .ensures) (e .before .before .if1 .left)) (omega arith) (d .descend .result) (d .descend .last .1 .1 .1 .1 .1 .0)
+    (held (f .fits2 .ensures) (e .if3 .left)) (rw (← t .top-chunk .ensures) (d .descend .ensures))
+
+pub lookup-spec : {M : Type 1} → statement M
+lookup-spec =
+    tie.close
+    (tie.spec
+    name-fits-requires
+    fits-requires
+    refused-requires
+    returns
+    refused-requires-2
+    returns-2
+    refused-requires-3
+    returns-3
+    top-chunk-requires
+    descend-requires
+    same-length
+    returns-4)

@@ -1,0 +1,16 @@
+use mathlib.Core.Path.{refl}
+use native.Mathlib.Omega.{arith}
+use lib.ListN.{length}
+use denote.Ref.{now}
+use borrow.Author.Tests.{le-leb, lt-leb}
+use Rattle.lookup.proofs.name_fits.Statement.{statement}
+use Rattle.lookup.proofs.name_fits.Tie as tie
+
+returns : tie.Need-returns
+returns c = rw (lt-leb 1 (length (now (c .before .args .name))) (omega arith)) refl
+
+returns-2 : tie.Need-returns-2
+returns-2 c = rw (le-leb 1 (length (now (c .before .args .name))) (omega arith)) refl
+
+pub name-fits-spec : {M : Type 1} → statement M
+name-fits-spec = tie.close (tie.spec returns returns-2)

@@ -1,0 +1,72 @@
+-- The lookup of a name in a file by a record, which may be made up: its answer, and what it leaves in the lent trail (FORMAT, Asking).
+-- Assumes nothing.
+use mathlib.Core.Bool.{Bool, true, false, cond}
+use mathlib.Core.List.{List}
+use Prim.Native.Nat.{ℕ}
+use lib.ListN.{length}
+use lib.Seq.{sets}
+use lib.Dec.{leb}
+use Rattle.header.specs.Header.{within}
+use Rattle.header.specs.declared.Record.{Record}
+use Rattle.tree.specs.Shape.{noChunk}
+use Rattle.tree.specs.Descent.{Outcome, found, absent, refused, outcome, trail}
+use Rattle.book.specs.Book.{directoryOf, shapeOf, bookFits, reportOf}
+use Rattle.lookup.specs.declared.Answer.{Answer}
+use Rattle.lookup.specs.declared.Answer.the-variants.{Found, Absent, Refused}
+
+-- ---- the descent in a file, read with the record's numbers (K2, Q1 to Q6)
+
+-- what it comes to
+abbrev pub outcomeIn : List ℕ → Record → List ℕ → Outcome
+outcomeIn s book name = outcome (directoryOf s book) (shapeOf book) name
+
+-- the numbers of its chunks, in order
+abbrev pub trailIn : List ℕ → Record → List ℕ → List ℕ
+trailIn s book name = trail (directoryOf s book) (shapeOf book) name
+
+-- how many they are
+abbrev pub countIn : List ℕ → Record → List ℕ → ℕ
+countIn s book name = length (trailIn s book name)
+
+-- ---- the answer
+
+-- a refusal of lookup has no chunk for its place (RO7)
+abbrev pub refusal : ℕ → Answer
+refusal n = Refused (record { number = n; chunk = noChunk })
+
+-- what a descent of n chunks answers (K3): found has the five numbers of the entry (K6), and found and absent, which are no refusals (RO9),
+-- have n (K5); 17 where it met a chunk that is none of its level (R17, K13, K14)
+abbrev pub answerOf : Record → ℕ → Outcome → Answer
+answerOf book n (found c e) = Found (reportOf book c e) n
+answerOf book n absent = Absent n
+answerOf book n refused = refusal 17
+
+-- a name that can be asked (R15)
+abbrev pub nameFits : List ℕ → Bool
+nameFits name = within 1 1024 (length name)
+
+-- the checks in their order (RO5): the name (R15), the number of the trail's places (R16), the record (R17, K12); then the descent
+unfoldable pub lookedUp : List ℕ → Record → List ℕ → ℕ → Answer
+lookedUp s book name places =
+    cond (nameFits name)
+    (cond (leb 5 places)
+    (cond (bookFits s book)
+    (answerOf book (countIn s book name) (outcomeIn s book name))
+    (refusal 17))
+    (refusal 16))
+    (refusal 15)
+
+-- ---- the trail
+
+abbrev pub isRefusal : Answer → Bool
+isRefusal (Found x n) = false
+isRefusal (Absent n) = false
+isRefusal (Refused x) = true
+
+-- what becomes of a trail with an answer: after a refusal it is as it was (RO8)
+abbrev pub unless : Answer → List ℕ → List ℕ → List ℕ
+unless r was is = cond (isRefusal r) was is
+
+-- the numbers of the descent's chunks from place 0 on (K4), the later places as they were (K5)
+unfoldable pub trailAfter : List ℕ → Record → List ℕ → List ℕ → List ℕ
+trailAfter s book name was = unless (lookedUp s book name (length was)) was (sets was 0 (trailIn s book name))

@@ -1,0 +1,552 @@
+"""A model of a whole book, independent of the library.
+
+It follows docs/FORMAT.md with plain lists and unbounded numbers, and shares no
+code with the library. One chunk by itself is judged by chunks.py.
+
+  Builder, build_book            the bytes of a book, good or damaged
+  opened                         the record of a book, or why it is refused
+  step, walk, listing            the entries, by the cursor
+  lookup                         the descent for a name
+  lent                           a part of the book
+  frames                         what the program `list` prints
+  random_book                    a builder with random options
+
+A record is a dict with the keys of RECORD. A report is (place of the name in
+the file, length of the name, section, offset, length). A refusal is
+('refused', number, place).
+"""
+
+from functools import lru_cache
+
+from chunks import (CHUNK, HEADER, INDEX, LISTING, NONE, build_index, build_listing, choose,
+                    compare, encode, find, fold, index_entry, listing_entry, nth, quick_count,
+                    verdict)
+
+RECORD = ('version', 'time', 'language', 'directory_start', 'count', 'density', 'depth',
+          'root', 'first', 'last', 'content_start')
+MOST = 60000                    # bytes that the program takes
+
+GUID_1 = bytes.fromhex('10fd017caa7bd0119e0c00a0c922e6ec')
+GUID_2 = bytes.fromhex('11fd017caa7bd0119e0c00a0c922e6ec')
+GUID_D = bytes.fromhex('6a92025d2e21d0119df900a0c922e6ec')
+HEADER_LENGTH = {2: 0x58, 3: 0x60}
+
+# Offset and width of each field; tags, GUIDs and unknown runs are kept as bytes.
+FILE = {'tag': (0x00, 4), 'version': (0x04, 4), 'header_length': (0x08, 4), 'word': (0x0C, 4),
+        'time': (0x10, 4), 'language': (0x14, 4), 'guid_1': (0x18, 16), 'guid_2': (0x28, 16),
+        'section0_start': (0x38, 8), 'section0_length': (0x40, 8),
+        'directory_start': (0x48, 8), 'directory_length': (0x50, 8), 'content_start': (0x58, 8)}
+SECTION0 = {'s_words': (0x00, 8), 'file_length': (0x08, 8), 's_rest': (0x10, 8)}
+DIRECTORY = {'d_tag': (0x00, 4), 'd_version': (0x04, 4), 'd_length': (0x08, 4), 'd_word': (0x0C, 4),
+             'chunk_size': (0x10, 4), 'density': (0x14, 4), 'depth': (0x18, 4), 'root': (0x1C, 4),
+             'first': (0x20, 4), 'last': (0x24, 4), 'd_word_28': (0x28, 4), 'count': (0x2C, 4),
+             'd_language': (0x30, 4), 'd_guid': (0x34, 16), 'd_length_2': (0x44, 4), 'd_rest': (0x48, 12)}
+AS_BYTES = {'tag', 'guid_1', 'guid_2', 's_words', 's_rest', 'd_tag', 'd_guid', 'd_rest'}
+UNCHECKED = ('word', 'time', 'language', 's_words', 's_rest', 'd_word', 'd_word_28', 'd_language', 'd_rest')
+
+
+def refused(number, place=NONE):
+    return 'refused', number, place
+
+
+# Opening
+
+def fields(data, table, base):
+    """The values of a table's fields, its header standing at a place."""
+    out = {}
+    for name, (at, width) in table.items():
+        part = data[base + at:base + at + width]
+        out[name] = bytes(part) if name in AS_BYTES else int.from_bytes(part, 'little')
+    return out
+
+
+def head(data):
+    """The record by the two headers, or the number of a refusal from 1 to 7."""
+    size = len(data)
+    if size < 96:
+        return 1
+    f = fields(data, FILE, 0)
+    if f['tag'] != b'ITSF' or f['guid_1'] != GUID_1 or f['guid_2'] != GUID_2:
+        return 2
+    version = f['version']
+    if version not in (2, 3) or f['header_length'] != HEADER_LENGTH[version]:
+        return 3
+    section0, directory = f['section0_start'], f['directory_start']
+    section0_end = section0 + f['section0_length']
+    directory_end = directory + f['directory_length']
+    content = f['content_start'] if version == 3 else directory_end
+    if f['section0_length'] != 24 or f['directory_length'] < 84:
+        return 4
+    if section0_end > size or directory_end > size:
+        return 4
+    if section0 < f['header_length'] or directory < f['header_length']:
+        return 4
+    if section0 < directory_end and directory < section0_end:
+        return 4
+    if content < section0_end or content < directory_end or content > size:
+        return 4
+    if fields(data, SECTION0, section0)['file_length'] != size:
+        return 5
+    d = fields(data, DIRECTORY, directory)
+    if (d['d_tag'] != b'ITSP' or d['d_version'] != 1 or d['d_length'] != 0x54
+            or d['d_guid'] != GUID_D or d['d_length_2'] != 0x54):
+        return 6
+    count, depth, root = d['count'], d['depth'], d['root']
+    if d['chunk_size'] != CHUNK or d['density'] > 7 or not 1 <= depth <= 5 or not 1 <= count <= 4096:
+        return 7
+    if f['directory_length'] != 84 + CHUNK * count or d['first'] >= count or d['last'] >= count:
+        return 7
+    if (depth == 1) != (count == 1):
+        return 7
+    if root not in (0, NONE) if depth == 1 else root >= count:
+        return 7
+    return dict(zip(RECORD, (version, f['time'], f['language'], directory, count, d['density'], depth,
+                             root, d['first'], d['last'], content)))
+
+
+judged = lru_cache(maxsize=512)(verdict)
+
+
+def chunk_place(record, number):
+    return record['directory_start'] + 84 + CHUNK * number
+
+
+def chunk_at(data, record, number):
+    """The verdict on a chunk by the record's numbers."""
+    at = chunk_place(record, number)
+    return judged(bytes(data[at:at + CHUNK]), record['density'], record['count'],
+                  len(data) - record['content_start'])
+
+
+def chain(parts, first, last):
+    """The numbers of the chain's chunks in order, or None where a rule of the
+    chain fails. `parts` has the verdict on each chunk. The walk ends: a chunk
+    met twice would have two different chunks in front of it."""
+    met, before, number = [], NONE, first
+    while number != NONE:
+        if number >= len(parts) or parts[number][0] != 'listing':
+            return None
+        _, previous, following, entries = parts[number]
+        if previous != before:
+            return None
+        if met and compare(parts[before][3][-1][2], entries[0][2]) >= 0:
+            return None
+        met.append(number)
+        before, number = number, following
+    if before != last or len(met) != sum(p[0] == 'listing' for p in parts):
+        return None
+    return met
+
+
+def leaves(parts, number, level, met):
+    """The listing chunks under a chunk from left to right, with a None where
+    T2 to T4 fail. Index chunks are added to `met`."""
+    if parts[number][0] != ('listing' if level == 1 else 'index'):
+        yield None
+    elif level == 1:
+        yield number
+    else:
+        met.add(number)
+        for _, _, name, child in parts[number][1]:
+            first_of_child = parts[child][-1][0]
+            if first_of_child[2] != name:
+                yield None
+            yield from leaves(parts, child, level - 1, met)
+
+
+def tree_holds(parts, record, order):
+    """The rules of the tree, for the chain's chunks in order."""
+    indexes = {i for i, p in enumerate(parts) if p[0] == 'index'}
+    if record['depth'] == 1:
+        return not indexes
+    met, left = set(), list(reversed(order))
+    for leaf in leaves(parts, record['root'], record['depth'], met):
+        if not left or leaf != left.pop():
+            return False
+    return not left and met == indexes
+
+
+def opened(data):
+    """('book', record), or the refusal."""
+    data = bytes(data)
+    record = head(data)
+    if not isinstance(record, dict):
+        return refused(record)
+    parts = []
+    for number in range(record['count']):
+        part = chunk_at(data, record, number)
+        if part[0] == 'refused':
+            return refused(part[1], number)
+        parts.append(part)
+    order = chain(parts, record['first'], record['last'])
+    if order is None:
+        return refused(13)
+    if not tree_holds(parts, record, order):
+        return refused(14)
+    return 'book', record
+
+
+# Asking: any bytes with any record
+
+def fits(data, record):
+    return (record['density'] <= 7 and 1 <= record['depth'] <= 5 and 1 <= record['count'] <= 4096
+            and record['content_start'] <= len(data))
+
+
+def meet(data, record, number, kind):
+    """The verdict on a chunk that is met, or None if it is to be refused."""
+    if number >= record['count'] or chunk_place(record, number) + CHUNK > len(data):
+        return None
+    part = chunk_at(data, record, number)
+    return part if part[0] == kind else None
+
+
+def report(record, number, entry):
+    _, name_at, name, section, offset, length = entry
+    return chunk_place(record, number) + name_at, len(name), section, offset, length
+
+
+def start(record):
+    """The cursor at the beginning."""
+    return record['first'], 0
+
+
+def step(data, record, cursor):
+    """('entry', report, cursor), ('end', cursor), or the refusal."""
+    number, i = cursor
+    if not fits(data, record):
+        return refused(17)
+    if number == NONE:
+        return 'end', cursor
+    part = meet(data, record, number, 'listing')
+    if part is None or i >= len(part[3]):
+        return refused(17)
+    behind = (number, i + 1) if i + 1 < len(part[3]) else (part[2], 0)
+    return 'entry', report(record, number, nth(part[3], i)), behind
+
+
+def walk(data, record, most, cursor=None):
+    """The reports of at most so many steps, and how they end: 'end',
+    'refused', or 'more' where the steps did not suffice."""
+    data, cursor, out = bytes(data), cursor or start(record), []
+    for _ in range(most):
+        got = step(data, record, cursor)
+        if got[0] != 'entry':
+            return out, got[0]
+        out.append(got[1])
+        cursor = got[2]
+    return out, 'more'
+
+
+def listing(data, record):
+    """All reports of a book. For a record that no book gave see `walk`: its
+    steps may be refused, or go on for ever."""
+    out, ending = walk(data, record, len(data))
+    if ending != 'end':
+        raise ValueError('the listing is ' + ending)
+    return out
+
+
+def lookup(data, record, name, places=5):
+    """('found', report, trail), ('absent', trail), or the refusal; `places` is
+    the length of the lent trail."""
+    data, name = bytes(data), bytes(name)
+    if not 1 <= len(name) <= 1024:
+        return refused(15)
+    if places < 5:
+        return refused(16)
+    if not fits(data, record):
+        return refused(17)
+    trail, number = [], record['first' if record['depth'] == 1 else 'root']
+    for level in range(record['depth'], 1, -1):
+        part = meet(data, record, number, 'index')
+        if part is None:
+            return refused(17)
+        trail.append(number)
+        entry = choose(part[1], name)
+        if entry is None:
+            return 'absent', trail
+        number = entry[3]
+    part = meet(data, record, number, 'listing')
+    if part is None:
+        return refused(17)
+    trail.append(number)
+    entry = find(part[3], name)
+    return ('found', report(record, number, entry), trail) if entry else ('absent', trail)
+
+
+def lent(data, place, length):
+    """That part of the bytes; empty where the range is not inside."""
+    return bytes(data[place:place + length]) if place + length <= len(data) else b''
+
+
+# The program
+
+def entry_bytes(data, told):
+    """A reported listing entry's own bytes. A value has one ENCINT, so the
+    report tells how long each field is."""
+    place, size = told[:2]
+    begin = place - len(encode(size))
+    return data[begin:place + size + sum(len(encode(n)) for n in told[2:])]
+
+
+def frames(data):
+    """The text that the program `list` prints for this input."""
+    data = bytes(data)
+    if len(data) > MOST:
+        return 'ee1dffffffff\n'
+    answer = opened(data)
+    if answer[0] == 'refused':
+        return 'ee%02x%08x\n' % answer[1:]
+    return ''.join(entry_bytes(data, told).hex() + '\n' for told in listing(data, answer[1]))
+
+
+# Building
+
+def runs(sizes, header, density, most=None):
+    """The entries of these sizes in runs (from, to), each filling a chunk with
+    as many as fit. `most` also bounds a run: a number, or a function that is
+    called for each."""
+    out, begin, used, bound = [], 0, 0, None
+    for i, size in enumerate(sizes):
+        if i == begin:
+            bound = most() if callable(most) else most
+        elif (i - begin == bound
+              or header + used + size + 2 + 2 * quick_count(i - begin + 1, density) > CHUNK):
+            out.append((begin, i))
+            begin, used = i, 0
+            bound = most() if callable(most) else most
+        used += size
+    if used:
+        out.append((begin, len(sizes)))
+    return out
+
+
+class Part:
+    """A chunk to be built. Entries are tuples, or bytes that stand as they
+    are; `damage` goes to the builders of chunks.py."""
+
+    def __init__(self, kind, entries, level=1, prev=NONE, next=NONE, word=0, **damage):
+        self.kind, self.entries, self.level = kind, list(entries), level
+        self.prev, self.next, self.word, self.damage = prev, next, word, damage
+
+    def build(self, density, fill):
+        more = dict({'fill': fill}, **self.damage)
+        if self.kind == INDEX:
+            return build_index(self.entries, density, **more)
+        return build_listing(self.entries, density, self.prev, self.next, self.word, **more)
+
+
+class Builder:
+    """A book to be built from rising listing entries (name, section, offset, length).
+
+    With no options it has the head that FORMAT, Writer, describes. Options:
+
+    content     bytes, or their number
+    version     2 or 3
+    density     of the quick words
+    per, fan    most entries of a listing chunk, of an index chunk: a number,
+                or a function that is called for each chunk
+    depth       at least so many levels, the upper ones with one entry a chunk
+    order       the chunk's numbers, listing chunks first in the order of the
+                chain, then the index levels from the lowest: a list, or a
+                function from the count to one
+    behind      section 0 stands behind the directory
+    gaps        bytes in front of the first section, between the two, and
+                behind the second (version 2: the last belongs to the content)
+    fill        unused tail bytes and gaps: a value, or a function from a length
+    chunk_word  the unchecked word of listing chunks: a number or a function
+    others      the fields of UNCHECKED
+
+    Damage: change `parts`, `numbers` (the number of each part), or name
+    fields of FILE, SECTION0 and DIRECTORY in `build`, which then stand there
+    whatever else the book holds. Nothing is checked.
+    """
+
+    def __init__(self, entries, content=b'', version=3, density=2, per=None, fan=None, depth=1, order=None,
+                 behind=False, gaps=(0, 0, 0), fill=0, chunk_word=0, **others):
+        self.content = bytes(content)
+        self.version, self.density, self.behind, self.gaps, self.fill = version, density, behind, gaps, fill
+        self.others = others
+        if not set(others) <= set(UNCHECKED):
+            raise ValueError('no such option: %s' % sorted(others))
+        word = chunk_word if callable(chunk_word) else lambda: chunk_word
+        entries = list(entries)
+        bounds = runs([len(listing_entry(*e)) for e in entries], HEADER[LISTING], density, per)
+        level = [Part(LISTING, entries[a:b], word=word()) for a, b in bounds]
+        levels = [level]
+        while len(level) > 1 or len(levels) < depth:
+            below = sum(map(len, levels[:-1]))
+            links = [(p.entries[0][0], below + i) for i, p in enumerate(level)]
+            # where the numbers are not known yet, room for the longest
+            sizes = [len(index_entry(n, i if order is None else 4095)) for n, i in links]
+            level = [Part(INDEX, links[a:b], len(levels) + 1) for a, b in runs(sizes, HEADER[INDEX], density, fan)]
+            levels.append(level)
+            if len(levels) > 16:
+                raise ValueError('the levels do not end')
+        self.levels = levels
+        self.parts = [p for level in levels for p in level]
+        self.depth = len(levels)
+        self.numbers = list(order(len(self.parts)) if callable(order) else order or range(len(self.parts)))
+        self._link()
+
+    def _link(self):
+        """Puts numbers where there were positions."""
+        numbers, leaf = self.numbers, self.levels[0]
+        for part, i in zip(leaf[1:], numbers):
+            part.prev = i
+        for part, i in zip(leaf[:-1], numbers[1:]):
+            part.next = i
+        for part in self.parts[len(leaf):]:
+            part.entries = [(name, numbers[i]) for name, i in part.entries]
+        self.first, self.last = numbers[0], numbers[len(leaf) - 1]
+        self.root = NONE if self.depth == 1 else numbers[len(self.parts) - 1]
+
+    @property
+    def places(self):
+        """Where section 0, the directory, the content and the end are."""
+        size = 84 + CHUNK * len(self.parts)
+        lengths = (size, 24) if self.behind else (24, size)
+        a = HEADER_LENGTH[self.version] + self.gaps[0]
+        b = a + lengths[0] + self.gaps[1]
+        content = b + lengths[1] + self.gaps[2]
+        if self.behind:
+            a, b = b, a
+        return a, b, content, content + len(self.content)
+
+    def values(self):
+        """The value of every field of a sound book."""
+        section0, directory, content, end = self.places
+        language = self.others.get('language', 0x409)
+        out = dict(tag=b'ITSF', version=self.version, header_length=HEADER_LENGTH[self.version], word=1, time=0,
+                   language=language, guid_1=GUID_1, guid_2=GUID_2, section0_start=section0, section0_length=24,
+                   directory_start=directory, directory_length=84 + CHUNK * len(self.parts), content_start=content,
+                   s_words=bytes.fromhex('fe01000000000000'), file_length=end, s_rest=bytes(8),
+                   d_tag=b'ITSP', d_version=1, d_length=0x54, d_word=0x0A, chunk_size=CHUNK, density=self.density,
+                   depth=self.depth, root=self.root, first=self.first, last=self.last, d_word_28=NONE,
+                   count=len(self.parts), d_language=language, d_guid=GUID_D, d_length_2=0x54, d_rest=b'\xff' * 12)
+        out.update(self.others)
+        return out
+
+    def junk(self, length):
+        return self.fill(length) if callable(self.fill) else bytes([self.fill]) * length
+
+    def build(self, **damage):
+        """The bytes of the book, with other values in the named fields."""
+        section0, directory, content, end = self.places
+        values = self.values()
+        if not set(damage) <= set(values):
+            raise ValueError('no such field: %s' % sorted(damage))
+        values.update(damage)
+        out = bytearray(self.junk(content)) + self.content
+        if sorted(self.numbers) != list(range(len(self.parts))):
+            raise ValueError('numbers of chunks: %s' % self.numbers)
+        for number, part in zip(self.numbers, self.parts):
+            at = directory + 84 + CHUNK * number
+            out[at:at + CHUNK] = part.build(self.density, self.fill)
+        for table, base in ((FILE, 0), (SECTION0, section0), (DIRECTORY, directory)):
+            for name, (at, width) in table.items():
+                if name == 'content_start' and self.version == 2:
+                    continue
+                v = values[name]
+                v = bytes(v) if name in AS_BYTES else v.to_bytes(width, 'little')
+                if len(v) != width:
+                    raise ValueError('%s has %d bytes' % (name, width))
+                out[base + at:base + at + width] = v
+        return bytes(out)
+
+    # What the model must say of a book that is built without damage
+
+    def record(self):
+        v = self.values()
+        if self.version == 2:
+            v['content_start'] = v['directory_start'] + v['directory_length']
+        return {name: v[name] for name in RECORD}
+
+    def part_at(self, position):
+        """The place of a part in the file."""
+        return self.places[1] + 84 + CHUNK * self.numbers[position]
+
+    def reports(self):
+        out = []
+        for position, part in enumerate(self.levels[0]):
+            at = self.part_at(position) + HEADER[LISTING]
+            for name, section, offset, length in part.entries:
+                out.append((at + len(encode(len(name))), len(name), section, offset, length))
+                at += len(listing_entry(name, section, offset, length))
+        return out
+
+    def names(self):
+        return [e[0] for part in self.levels[0] for e in part.entries]
+
+
+def build_book(entries, content=b'', **options):
+    return Builder(entries, content, **options).build()
+
+
+# Random books
+
+FOLDED = bytes(fold(b) for b in range(256))
+
+
+def rising(names):
+    """The names in their order, each once."""
+    return [n for _, n in sorted({n.translate(FOLDED): n for n in names}.items())]
+
+
+def random_names(r, many):
+    kind = r.choice(('short', 'path', 'path', 'odd', 'long', 'mixed'))
+    out = [b'/'] if r.random() < .5 else []
+    for _ in range(many):
+        k = r.choice(('short', 'path', 'odd', 'long')) if kind == 'mixed' else kind
+        if k == 'short':
+            n = bytes(r.choice(b'/abAB[_`{.') for _ in range(r.randint(1, 6)))
+        elif k == 'path':
+            n = b'/%s/Page-%03X%s.htm' % (r.choice((b'events', b'Events', b'maps', b'MAPS/upper')),
+                                          r.randrange(4096), b'x' * r.choice((0, 0, 3, 90, 110)))
+        elif k == 'odd':
+            n = bytes(r.choice((0, 0x40, 0x41, 0x5A, 0x5B, 0x60, 0x61, 0x7A, 0x7B, 0x80, 0xC1, 0xFF, r.randrange(256)))
+                      for _ in range(r.choice((1, 2, 3, 20))))
+        else:
+            n = (b'/%04d' % r.randrange(10000)).ljust(r.choice((127, 128, 600, 1000, 1024)), r.choice((b'a', b'Z', b'[')))
+        out.append(n)
+    return rising(out) or [b'/']
+
+
+def random_entries(r, names, content):
+    out = []
+    for n in names:
+        if r.random() < .6:
+            offset = r.choice((0, content, r.randint(0, content)))
+            out.append((n, 0, offset, r.choice((0, content - offset, r.randint(0, content - offset)))))
+        else:
+            out.append((n, r.choice((1, 2, 127, 128, 65535)), r.getrandbits(r.choice((1, 7, 8, 32, 63))),
+                        r.getrandbits(r.choice((1, 7, 14, 63)))))
+    return out
+
+
+def random_book(r, chunks=14):
+    """A builder for a good book with random options, of at most so many chunks."""
+    content = r.randbytes(r.choice((0, 1, 5, 127, 128, 1500)))
+    names = random_names(r, r.choice((1, 2, 3, 6, 11, 20, 40, 40, 80, 300)))
+    options = dict(
+        version=r.choice((2, 3, 3)), density=r.choice((0, 1, 2, 2, 3, 4, 5, 6, 7)),
+        per=r.choice((None, None, 1, 5, 6, 11, 40, lambda: r.randint(1, 30))),
+        fan=r.choice((None, None, 2, 3, lambda: r.randint(2, 6))), depth=r.choice((1, 1, 1, 2, 3, 4, 5)),
+        order=r.choice((None, lambda c: r.sample(range(c), c))), fill=r.choice((0, 0xFF, r.randbytes)),
+        gaps=r.choice(((0, 0, 0), (0, 0, 0), (1, 0, 0), tuple(r.randint(0, 300) for _ in range(3)))),
+        chunk_word=r.choice((0, NONE, lambda: r.getrandbits(32))))
+    if options['version'] == 3:
+        options['behind'] = r.random() < .4
+    if r.random() < .5:
+        for name in UNCHECKED:
+            width = {**FILE, **SECTION0, **DIRECTORY}[name][1]
+            options[name] = r.randbytes(width) if name in AS_BYTES else r.getrandbits(8 * width)
+    entries = random_entries(r, names, len(content))
+    while True:
+        b = Builder(entries, content, **options)
+        if b.depth <= 5 and len(b.parts) <= chunks:
+            return b
+        if len(entries) == 1:
+            options['depth'] = 1
+        entries = entries[:max(1, len(entries) * 2 // 3)]

@@ -1,0 +1,122 @@
+"""Makes the sample books, and the input and expected output of the program `list`.
+
+  make_books.py                      writes the files
+  make_books.py --check              writes nothing and says what differs
+  make_books.py --large FILE         a book of 4,096 chunks with about 30 entries a listing chunk
+  make_books.py --large-short FILE   one with short names, about 210 entries a listing chunk
+
+The books for measuring are not kept.
+"""
+
+import os
+import sys
+
+from books import Builder, frames, opened, rising, runs
+from chunks import HEADER, INDEX, LISTING, index_entry, listing_entry
+
+YEARS = ('1720', '1749', '1808', '1888')
+PLACES = ('Upper-Reaches', 'lower-reaches', 'Oberwald', 'St-Anton-am-Bach')
+
+
+def sample():
+    """The sample book of FORMAT W16."""
+    return Builder([(b'/', 0, 0, 0), (b'/a.htm', 0, 0, 5)], b'hello')
+
+
+def several():
+    """Six listing chunks under index chunks of two levels, the numbers not along the chain."""
+    pages = ['/events/%s/%s/station-%02d/Protocol-of-the-slide-and-of-all-its-damage.htm' % (y, p, i)
+             for y in YEARS for p in PLACES for i in range(1, 15)]
+    names = rising([n.encode() for n in pages] + [b'/', b'/#SYSTEM', b'/#TOPICS', b'/index.hhc', b'/[drafts]/', b'/Zones.htm',
+                                                 b'/z\xc3\xbcge.htm', b'::DataSpace/NameList',
+                                                 b'::DataSpace/Storage/MSCompressed/Content'])
+    entries, content = [], b''
+    for i, name in enumerate(names):
+        if name in (b'/', b'/[drafts]/'):
+            entries.append((name, 0, 0, 0))
+        elif name.startswith(b'/events'):
+            entries.append((name, 1, 4700 * i, 4211 + i))
+        else:
+            entries.append((name, 0, len(content), len(name)))
+            content += name
+    return Builder(entries, content, fan=3, order=(7, 2, 4, 0, 8, 3, 5, 1, 6), time=0x5C1E2A90, language=0x407)
+
+
+def made():
+    """The files and what they hold."""
+    books = {'samples/sample.chm': sample().build(), 'samples/several.chm': several().build()}
+    for path, data in books.items():
+        if opened(data)[0] != 'book' or len(data) > 60000:
+            raise SystemExit('%s is no book for the program' % path)
+    data = books['samples/sample.chm']
+    return dict(books, **{'crates/list/stdin': data, 'crates/list/stdout': frames(data).encode()})
+
+
+# Books for measuring
+
+def long_entry(i):
+    day = i // 400
+    return (b'/events/%04d/%02d/%02d/valley-of-the-upper-reaches/station-%04d/protocol-of-the-slide-and-of-all-its-damage-%08d.html'
+            % (1600 + day // 336, day // 28 % 12 + 1, day % 28 + 1, i % 400, i * 37), 1, i * 70000, 68211)
+
+
+def short_entry(i):
+    return b'/e/%07d.h' % i, 1, i * 30, 30
+
+
+def large(entry, count=4096, density=2):
+    """The builder of a book with exactly so many chunks."""
+    entries, sizes, bounds = [], [], []
+    while len(bounds) < count:
+        for i in range(len(entries), len(entries) + (count - len(bounds)) * 4096 // len(listing_entry(*entry(0)))):
+            entries.append(entry(i))
+            sizes.append(len(listing_entry(*entries[i])))
+        bounds = runs(sizes, HEADER[LISTING], density)
+    for fan in (None, 30, 29, 28, 27):
+        for listed in range(count - 1, 0, -1):
+            above, total = [entries[a][0] for a, _ in bounds[:listed]], listed
+            while len(above) > 1:
+                links = [len(index_entry(n, total - len(above) + k)) for k, n in enumerate(above)]
+                above = [above[a] for a, _ in runs(links, HEADER[INDEX], density, fan)]
+                total += len(above)
+            if total == count:
+                return Builder(entries[:bounds[listed - 1][1]], density=density, fan=fan)
+            if total < count:
+                break
+    raise SystemExit('no book of %d chunks' % count)
+
+
+def write_large(entry, path):
+    b = large(entry)
+    data = b.build()
+    if opened(data) != ('book', b.record()):
+        raise SystemExit('the large book is refused')
+    with open(path, 'wb') as f:
+        f.write(data)
+    print('%d bytes, %d chunks, %d of them listing chunks, depth %d, %d entries'
+          % (len(data), len(b.parts), len(b.levels[0]), b.depth, len(b.names())))
+
+
+def main():
+    if len(sys.argv) == 3 and sys.argv[1] in ('--large', '--large-short'):
+        return write_large(long_entry if sys.argv[1] == '--large' else short_entry, sys.argv[2])
+    if sys.argv[1:] not in ([], ['--check']):
+        raise SystemExit(__doc__)
+    top = os.path.dirname(os.path.dirname(os.path.abspath(__file__)))
+    differ, files = [], made()
+    for path, data in files.items():
+        whole = os.path.join(top, path)
+        if sys.argv[1:]:
+            if not os.path.exists(whole) or open(whole, 'rb').read() != data:
+                differ.append(path)
+        else:
+            os.makedirs(os.path.dirname(whole), exist_ok=True)
+            with open(whole, 'wb') as f:
+                f.write(data)
+    if differ:
+        raise SystemExit('differ from what is made: ' + ', '.join(differ))
+    print('%d files' % len(files))
+
+
+if __name__ == '__main__':
+    main()
