@@ -1,21 +1,20 @@
 -- Listing is exact: the steps through a book that opens report every entry of every chunk of its chain, in order, each once, and then the end.
 -- Assumes nothing.
-use mathlib.Core.Path.{_≡_, refl, sym, ap, _∙_}
+use mathlib.Core.Path.{_≡_, refl, ap}
 use mathlib.Core.Bool.{true}
-use mathlib.Core.List.{List, [], _∷_, _++_, flatMap, append-nil}
+use mathlib.Core.List.{List, flatMap, append-nil}
 use Prim.Native.Nat.{ℕ, zero, suc}
-use lib.ListN.{length}
 use borrow.Author.Tests.{eqb-true}
 use Rattle.fields.proofs.Tests.{never}
 use Rattle.header.specs.declared.Record.{Record}
-use Rattle.tree.specs.Shape.{noChunk, nextOf, GoodChunks}
+use Rattle.tree.specs.Shape.{noChunk, nextOf}
 use Rattle.tree.specs.Chain.{chainFrom, chain, linked}
 use Rattle.tree.proofs.Linked.{onLink, linked-chunk, chain-linked, listed}
 use Rattle.book.specs.Book.{directoryOf, shapeOf, bookFits}
 use Rattle.directory.specs.Opened.{opened}
 use Rattle.directory.specs.declared.Opened.the-variants.{Book}
 use Rattle.listing.specs.Listing.{cursorAt, startOf, stepped, reportsIn}
-use Rattle.listing.specs.Whole.{stepsFrom, cursorAfter, wholeListing, lastCursor, ListingExact}
+use Rattle.listing.specs.Whole.{wholeListing, lastCursor, ListingExact}
 use Rattle.listing.specs.declared.Cursor.{Cursor}
 use Rattle.listing.specs.declared.Step.the-variants.{End}
 use Rattle.directory.proofs.Accepted.{opened-book}

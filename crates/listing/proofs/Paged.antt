@@ -2,8 +2,8 @@
 -- report while they stay in that chunk, and its next chunk is the one that they go on in.
 -- Assumes nothing.
 use mathlib.Core.Path.{_≡_, refl, sym, ap, _∙_}
-use mathlib.Core.Bool.{Bool, true, false, cond, _&&_}
-use mathlib.Core.List.{List, map}
+use mathlib.Core.Bool.{Bool, true, false, cond}
+use mathlib.Core.List.{List}
 use Prim.Native.Nat.{ℕ}
 use native.Mathlib.Omega.{arith}
 use lib.ListN.{length, length-map}
@@ -12,10 +12,9 @@ use Rattle.fields.proofs.Tests.{and-both}
 use Rattle.chunk.specs.Chunk.{entriesIn}
 use Rattle.header.specs.declared.Record.{Record}
 use Rattle.tree.specs.Shape.{nextOf}
-use Rattle.book.specs.Book.{directoryOf, shapeOf, bookFits, reportOf}
+use Rattle.book.specs.Book.{directoryOf, bookFits, reportOf}
 use Rattle.listing.specs.Listing.{refusal, cursorAt, numbersOf, reportsIn, canList, hasRoom, pageOf, pageIn}
-use Rattle.listing.specs.Whole.{stepsFrom, cursorAfter, PageSteps}
-use Rattle.listing.specs.declared.Page.{Page}
+use Rattle.listing.specs.Whole.{stepsFrom, PageSteps}
 use Rattle.listing.specs.declared.Page.the-variants.{Entries, Short, Refused}
 use Rattle.listing.proofs.Run.{run-steps, run-chunk, cursor-inside}
 

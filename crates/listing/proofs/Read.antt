@@ -1,11 +1,10 @@
 -- The entries of a listing chunk that passed its check, as they are read: their count, entry i, and each behind the one before it.
 -- Assumes nothing.
-use mathlib.Core.Path.{_≡_, refl, sym, ap, subst, _∙_}
+use mathlib.Core.Path.{_≡_, refl, sym, ap, _∙_}
 use mathlib.Core.Bool.{Bool, true, false, cond}
-use mathlib.Core.List.{List, [], _∷_}
-use Prim.Native.Nat.{ℕ, zero, suc, _+_, _-_, _/_, _%_, _≤_, _<_}
+use mathlib.Core.List.{List, _∷_}
+use Prim.Native.Nat.{ℕ, zero, suc, _+_, _-_, _/_, _%_, _<_}
 use native.Mathlib.Omega.{arith}
-use native.Mathlib.Numerals.{add-one}
 use lib.ListN.{length, drop}
 use lib.Seq.{drop-drop}
 use lib.Dec.{ltb}
@@ -15,11 +14,10 @@ use Rattle.entries.specs.declared.Limits.{Limits}
 use Rattle.entries.specs.declared.Place.{Place}
 use Rattle.entries.specs.declared.Item.{Item}
 use Rattle.entries.specs.declared.Item.the-variants.{Good, Bad}
-use Rattle.entries.proofs.Laws.{Inside, item-inside}
-use Rattle.chunk.specs.Chunk.{Entry, all, entryOf, withItem, entriesAt, headOf, countOf, tailOf, spacingOf, entriesIn}
+use Rattle.entries.proofs.Laws.{item-inside}
+use Rattle.chunk.specs.Chunk.{Entry, all, entryOf, withItem, entriesAt, countOf, tailOf, spacingOf, entriesIn}
 use Rattle.chunk.proofs.Accepted.{Accepted, accepted, entries-more, entries-count}
-use Rattle.seek.specs.Seek.{Sought, absent, found, nth, soughtOf, afterAt, groupAt, nthIn}
-use Rattle.seek.specs.declared.Hit.{Hit}
+use Rattle.seek.specs.Seek.{absent, found, nth, soughtOf, afterAt, groupAt, nthIn}
 use Rattle.seek.specs.declared.Hit.the-variants.{At, Nothing}
 use Rattle.seek.proofs.Good.{nth-good}
 use Rattle.header.specs.declared.Record.{Record}

@@ -1,9 +1,9 @@
 -- A run of steps: each reports an entry. The steps from entry 0 of a listing chunk run through its entries, and come to its next chunk.
 -- Assumes nothing.
 use mathlib.Core.Path.{_≡_, refl, sym, ap, _∙_}
-use mathlib.Core.Bool.{Bool, true, false, _&&_}
+use mathlib.Core.Bool.{true}
 use mathlib.Core.List.{List, [], _∷_, _++_, map}
-use Prim.Native.Nat.{ℕ, zero, suc, _+_, _-_, _≤_, _<_}
+use Prim.Native.Nat.{ℕ, zero, suc, _+_, _-_, _<_}
 use native.Mathlib.Omega.{arith}
 use lib.ListN.{length, take, drop, length-drop}
 use lib.Seq.{drop-drop}
@@ -14,7 +14,7 @@ use Rattle.chunk.specs.Chunk.{Entry, entriesIn}
 use Rattle.seek.specs.Seek.{found, nth}
 use Rattle.header.specs.Header.{within}
 use Rattle.header.specs.declared.Record.{Record}
-use Rattle.tree.specs.Shape.{noChunk, isListing, nextOf, listingChunk}
+use Rattle.tree.specs.Shape.{noChunk, nextOf, listingChunk}
 use Rattle.tree.proofs.Chunks.{listing-chunk}
 use Rattle.book.specs.Book.{directoryOf, shapeOf, bookFits, reportOf}
 use Rattle.book.specs.declared.Report.{Report}
@@ -23,7 +23,7 @@ use Rattle.listing.specs.Whole.{cursorIn, stepsFrom, cursorAfter}
 use Rattle.listing.specs.declared.Cursor.{Cursor}
 use Rattle.listing.specs.declared.Step.the-variants.{Entry as Reported, End}
 use Rattle.listing.proofs.Read.{entries-some}
-use Rattle.listing.proofs.Stepping.{entry-inside, entry-last, step-end, step-entry}
+use Rattle.listing.proofs.Stepping.{entry-inside, entry-last, step-entry}
 
 -- ---- a run
 
@@ -79,7 +79,7 @@ module _ (s : List ℕ) (book : Record) (c : ℕ) (fits : bookFits s book ≡ tr
   abbrev next : Cursor
   next = cursorAt (nextOf (directoryOf s book c)) 0
 
-  -- a chunk below the count has not the number of none
+  -- its number is not that of none
   some-chunk : c ≡ noChunk → ⊥
   unfolding bookFits
   some-chunk e =
@@ -89,13 +89,13 @@ module _ (s : List ℕ) (book : Record) (c : ℕ) (fits : bookFits s book ≡ tr
       omega arith
 
   -- the step at an entry: the one behind it, or the next chunk
-  pub step-inside : (i : ℕ) (x y : Entry) (ys : List Entry) → drop i es ≡ x ∷ y ∷ ys → stepped s book (cursorAt c i) ≡ Reported (reportOf book c x) (cursorAt c (i + 1))
+  step-inside : (i : ℕ) (x y : Entry) (ys : List Entry) → drop i es ≡ x ∷ y ∷ ys → stepped s book (cursorAt c i) ≡ Reported (reportOf book c x) (cursorAt c (i + 1))
   step-inside i x y ys e =
       let l : length es - i ≡ suc (suc (length ys)) = sym (length-drop i es) ∙ ap length e in
       step-entry s book (cursorAt c i) fits some-chunk here
       ∙ entry-inside book (directoryOf s book c) (cursorAt c i) x (nth-first i es x (y ∷ ys) e) (omega arith)
 
-  pub step-last : (i : ℕ) (x : Entry) → drop i es ≡ x ∷ [] → stepped s book (cursorAt c i) ≡ Reported (reportOf book c x) next
+  step-last : (i : ℕ) (x : Entry) → drop i es ≡ x ∷ [] → stepped s book (cursorAt c i) ≡ Reported (reportOf book c x) next
   step-last i x e =
       let l : length es - i ≡ 1 = sym (length-drop i es) ∙ ap length e in
       step-entry s book (cursorAt c i) fits some-chunk here

@@ -1,12 +1,14 @@
 -- The proof of `descend`, which calls itself: the measure is the level. Assumes nothing.
-use mathlib.Core.Path.{refl, sym, _∙_}
+use mathlib.Core.Path.{_≡_, refl, sym, _∙_}
 use Prim.Native.Nat.{ℕ, _+_, _<_}
 use native.Mathlib.Omega.{arith}
 use denote.Ref.{now}
 use borrow.Author.Needs.{needs}
 use borrow.Fn.Kinds.{In}
 use borrow.Fn.PlainCycle.{Measures, is, falls, and}
+use Rattle.lookup.specs.Step.{wayAt}
 use Rattle.lookup.specs.declared.Answer.the-variants.{Absent}
+use Rattle.lookup.specs.declared.Way.the-variants.{Down, Ends, Barred}
 use Rattle.lookup.proofs.Descending.{listing-below, down-below, ends-below, at-listing, at-end, at-bar, going-down}
 use Rattle.lookup.proofs.descend.Reads as descend
 use Rattle.lookup.proofs.descend.Kinds as descend-kinds
@@ -42,6 +44,22 @@ callees t = (
   refused-reads.Learnt,
 )
 
+-- where the index chunk leads
+way-down : (t : ℕ) (c : descend-lts.After-child (callees t) (descend-at t) descend.Post)
+    → let a = c .before .before .before .before .before .before .before .args in
+    Down (c .child .given .0 .0) ≡ wayAt (now (a .file)) (a .book) (now (a .name)) (a .c)
+way-down t c = sym (c .child .given .1) ∙ c .before .before .ask-index .ensures
+
+way-ends : (t : ℕ) (c : descend-lts.After-enum-told (callees t) (descend-at t) descend.Post)
+    → let a = c .before .before .before .before .before .before .before .args in
+    Ends ≡ wayAt (now (a .file)) (a .book) (now (a .name)) (a .c)
+way-ends t c = sym (c .enum-told .given .1) ∙ c .before .before .ask-index .ensures
+
+way-barred : (t : ℕ) (c : descend-lts.After-enum-told2 (callees t) (descend-at t) descend.Post)
+    → let a = c .before .before .before .before .before .before .before .args in
+    Barred ≡ wayAt (now (a .file)) (a .book) (now (a .name)) (a .c)
+way-barred t c = sym (c .enum-told2 .given .1) ∙ c .before .before .ask-index .ensures
+
 descend-add-n : (t : ℕ) → descend-lts.Need-add-n (callees t) (descend-at t) descend.Post
 descend-add-n t c = search needs
 
@@ -54,8 +72,11 @@ descend-ask-listing-requires t c κs = search needs
 descend-marked-requires : (t : ℕ) → descend-lts.Need-marked-requires (callees t) (descend-at t) descend.Post
 descend-marked-requires t c κs =
     let l = c .before in
-    let a = l .before .before .before .before .before .args in
-    (search needs, λ h. (let b = listing-below (now (a .file)) (a .book) (now (a .name)) (a .c) (a .i + 1) (l .ask-listing .result) (l .ask-listing .ensures) h in omega arith))
+    let a = l .before .before .before .before .before .args in (
+      search needs,
+      λ h. (let b = listing-below (now (a .file)) (a .book) (now (a .name)) (a .c) (a .i + 1) (l .ask-listing .result) (l .ask-listing .ensures) h in
+          omega arith),
+    )
 
 descend-same-length : (t : ℕ) → descend-lts.Need-same-length (callees t) (descend-at t) descend.Post
 descend-same-length t c = c .before .before .marked .kept .1 .0
@@ -65,8 +86,9 @@ descend-returns t c =
     let m = c .before .before in
     let l = m .before .before in
     let a = l .before .before .before .before .before .args in
-    at-listing (now (a .file)) (a .book) (now (a .name)) (a .c) (a .level) (a .i) (now (a .trail)) (l .ask-listing .result) (m .marked .result) (now (a .trail)) (m .marked .last .1 .0)
-    (m .marked .ensures .0) (m .marked .ensures .1) (omega arith) (omega arith) refl (l .ask-listing .ensures)
+    at-listing (now (a .file)) (a .book) (now (a .name)) (a .c) (a .level) (a .i) (now (a .trail)) (l .ask-listing .result) (m .marked .result)
+    (now (a .trail)) (m .marked .last .1 .0) (m .marked .ensures .0) (m .marked .ensures .1)
+    (omega arith) (omega arith) refl (l .ask-listing .ensures)
 
 descend-ask-index-requires : (t : ℕ) → descend-lts.Need-ask-index-requires (callees t) (descend-at t) descend.Post
 descend-ask-index-requires t c κs = search needs
@@ -85,20 +107,18 @@ descend-descend-requires t c κs = search needs
 
 descend-marked-requires-2 : (t : ℕ) → descend-lts.Need-marked-requires-2 (callees t) (descend-at t) descend.Post
 descend-marked-requires-2 t c κs =
-    let d = c .before .before .before in
-    let k = d .before .before .before in
-    let w = k .before .before in
-    let a = w .before .before .before .before .before .args in
-    (search needs, λ h. (let b = down-below (now (a .file)) (a .book) (now (a .name)) (a .c) (k .child .given .0 .0) (sym (k .child .given .1) ∙ w .ask-index .ensures) in omega arith))
+    let k = c .before .before .before .before .before .before in
+    let a = k .before .before .before .before .before .before .before .args in
+    (search needs, λ h. (let b = down-below (now (a .file)) (a .book) (now (a .name)) (a .c) (k .child .given .0 .0) (way-down t k) in omega arith))
 
 descend-enum-told : (t : ℕ) → descend-lts.Need-enum-told (callees t) (descend-at t) descend.Post
 descend-enum-told t c = search needs
 
 descend-marked-requires-3 : (t : ℕ) → descend-lts.Need-marked-requires-3 (callees t) (descend-at t) descend.Post
 descend-marked-requires-3 t c κs =
-    let w = c .before .before .before in
-    let a = w .before .before .before .before .before .args in
-    (search needs, λ h. (let b = ends-below (now (a .file)) (a .book) (now (a .name)) (a .c) (sym (c .before .enum-told .given .1) ∙ w .ask-index .ensures) in omega arith))
+    let e = c .before in
+    let a = e .before .before .before .before .before .before .before .args in
+    (search needs, λ h. (let b = ends-below (now (a .file)) (a .book) (now (a .name)) (a .c) (way-ends t e) in omega arith))
 
 descend-enum-told-2 : (t : ℕ) → descend-lts.Need-enum-told-2 (callees t) (descend-at t) descend.Post
 descend-enum-told-2 t c = search needs
@@ -114,10 +134,10 @@ descend-returns-2 t c =
     let m = c .before .before in
     let d = m .before .before .before .before in
     let k = d .before .before .before in
-    let w = k .before .before in
-    let a = w .before .before .before .before .before .args in
-    going-down (now (a .file)) (a .book) (now (a .name)) (a .c) (a .level) (a .i) (now (a .trail)) (d .descend .result) (m .marked2 .result) (d .descend .last .1 .1 .1 .1 .1 .0) (m .marked2 .last .1 .0)
-    (m .marked2 .ensures .0) (m .marked2 .ensures .1) (omega arith) (k .child .given .0 .0) (sym (k .child .given .1) ∙ w .ask-index .ensures) (d .descend .ensures)
+    let a = k .before .before .before .before .before .before .before .args in
+    going-down (now (a .file)) (a .book) (now (a .name)) (a .c) (a .level) (a .i) (now (a .trail)) (d .descend .result) (m .marked2 .result)
+    (d .descend .last .1 .1 .1 .1 .1 .0) (m .marked2 .last .1 .0) (m .marked2 .ensures .0) (m .marked2 .ensures .1)
+    (omega arith) (k .child .given .0 .0) (way-down t k) (d .descend .ensures)
 
 descend-same-length-3 : (t : ℕ) → descend-lts.Need-same-length-3 (callees t) (descend-at t) descend.Post
 descend-same-length-3 t c = c .before .before .marked3 .kept .1 .0
@@ -126,17 +146,17 @@ descend-returns-3 : (t : ℕ) → descend-lts.Need-returns-3 (callees t) (descen
 descend-returns-3 t c =
     let m = c .before .before in
     let e = m .before .before in
-    let w = e .before .before in
-    let a = w .before .before .before .before .before .args in
-    at-end (now (a .file)) (a .book) (now (a .name)) (a .c) (a .level) (a .i) (now (a .trail)) (Absent (a .i + 1)) (m .marked3 .result) (now (a .trail)) (m .marked3 .last .1 .0)
-    (m .marked3 .ensures .0) (m .marked3 .ensures .1) (omega arith) (sym (e .enum-told .given .1) ∙ w .ask-index .ensures) refl refl
+    let a = e .before .before .before .before .before .before .before .args in
+    at-end (now (a .file)) (a .book) (now (a .name)) (a .c) (a .level) (a .i) (now (a .trail)) (Absent (a .i + 1)) (m .marked3 .result)
+    (now (a .trail)) (m .marked3 .last .1 .0) (m .marked3 .ensures .0) (m .marked3 .ensures .1)
+    (omega arith) (way-ends t e) refl refl
 
 descend-returns-4 : (t : ℕ) → descend-lts.Need-returns-4 (callees t) (descend-at t) descend.Post
 descend-returns-4 t c =
     let e = c .before in
-    let w = e .before .before in
-    let a = w .before .before .before .before .before .args in
-    at-bar (now (a .file)) (a .book) (now (a .name)) (a .c) (a .level) (a .i) (now (a .trail)) (c .refused .result) (omega arith) (sym (e .enum-told2 .given .1) ∙ w .ask-index .ensures) (c .refused .ensures)
+    let a = e .before .before .before .before .before .before .before .args in
+    at-bar (now (a .file)) (a .book) (now (a .name)) (a .c) (a .level) (a .i) (now (a .trail)) (c .refused .result)
+    (omega arith) (way-barred t e) (c .refused .ensures)
 
 pub +descend-spec : {M : Type 1} → statement M
 +descend-spec = close μ-descend λ t. descend-lts.spec (callees t)

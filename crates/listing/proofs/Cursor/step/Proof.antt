@@ -1,6 +1,6 @@
 use borrow.Author.Needs.{needs}
 use mathlib.Core.Path.{_≡_, sym, ap, _∙_}
-use mathlib.Core.Bool.{true, false}
+use mathlib.Core.Bool.{true}
 use denote.Ref.{now}
 use Rattle.fields.proofs.Tests.{held, failed}
 use Rattle.chunk.specs.declared.Chunk.the-variants.{Listing}
