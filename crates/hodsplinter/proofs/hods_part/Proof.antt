@@ -1,0 +1,14 @@
+use borrow.Author.Needs.{needs}
+use lib.ListN.{length}
+use mathlib.Core.Path.{_≡_, refl, sym, ap, _∙_}
+use Rattle.hodsplinter.proofs.hods_part.Statement.{statement}
+use Rattle.hodsplinter.proofs.hods_part.Tie as tie
+
+part-requires : tie.Need-part-requires
+part-requires c κs = search needs
+
+returns : tie.Need-returns
+returns c = ap length (c .part .ensures)
+
+pub hods-part-spec : {M : Type 1} → statement M
+hods-part-spec = tie.close (tie.spec part-requires returns)

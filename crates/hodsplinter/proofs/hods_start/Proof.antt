@@ -1,0 +1,16 @@
+use borrow.Author.Needs.{needs}
+use mathlib.Core.Path.{_≡_, refl, sym, ap, _∙_}
+use Rattle.hodsplinter.proofs.hods_start.Statement.{statement}
+use Rattle.hodsplinter.proofs.hods_start.Tie as tie
+
+record-in-requires : tie.Need-record-in-requires
+record-in-requires c κs = search needs
+
+start-requires : tie.Need-start-requires
+start-requires c κs = search needs
+
+returns : tie.Need-returns
+returns c = (refl, rw (c .before .start .ensures, c .before .before .record-in .ensures))
+
+pub hods-start-spec : {M : Type 1} → statement M
+hods-start-spec = tie.close (tie.spec record-in-requires start-requires returns)

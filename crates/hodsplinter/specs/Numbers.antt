@@ -1,0 +1,110 @@
+-- Records, refusals and answers as numbers for C.
+-- Assumes nothing.
+use Prim.Native.Nat.{ℕ, _+_, _*_}
+use mathlib.Core.List.{List, [], _∷_}
+use lib.ListN.{length, getD, set}
+use Rattle.fields.specs.Part.{partOf}
+use Rattle.header.specs.declared.Record.{Record}
+use Rattle.book.specs.declared.Refusal.{Refusal}
+use Rattle.book.specs.declared.Report.{Report}
+use Rattle.directory.specs.declared.Opened.{Opened}
+use Rattle.directory.specs.declared.Opened.the-variants.{Book}
+use Rattle.lookup.specs.declared.Answer.{Answer}
+use Rattle.lookup.specs.declared.Answer.the-variants.{Found, Absent}
+use Rattle.listing.specs.Listing.{fiveOf}
+use Rattle.listing.specs.declared.Cursor.{Cursor}
+use Rattle.listing.specs.declared.Step.{Step}
+use Rattle.listing.specs.declared.Step.the-variants.{End}
+use Rattle.listing.specs.declared.Page.{Page}
+use Rattle.listing.specs.declared.Page.the-variants.{Entries, Short}
+
+-- ---- a record as eleven numbers, in the order of its fields
+
+unfoldable pub recordIn : List ℕ → Record
+recordIn n =
+    record {
+      version = getD n 0 0;
+      time = getD n 1 0;
+      language = getD n 2 0;
+      start = getD n 3 0;
+      count = getD n 4 0;
+      density = getD n 5 0;
+      depth = getD n 6 0;
+      root = getD n 7 0;
+      first = getD n 8 0;
+      last = getD n 9 0;
+      content = getD n 10 0;
+    }
+
+abbrev pub numbersOf : Record → List ℕ
+numbersOf r =
+    r .version ∷ r .time ∷ r .language ∷ r .start ∷ r .count ∷ r .density ∷ r .depth ∷ r .root ∷ r .first ∷ r .last ∷ r .content ∷ []
+
+-- ---- a refusal: its number plus 256 times its place
+
+abbrev pub refusalCode : Refusal → ℕ
+refusalCode r = r .number + 256 * r .chunk
+
+-- ---- opening: 0 and the record, or the refusal with nothing changed
+
+abbrev pub openCode : Opened → ℕ
+openCode (Book r) = 0
+openCode (Opened.Refused x) = refusalCode x
+
+abbrev pub openRecord : Opened → List ℕ → List ℕ
+openRecord (Book r) was = numbersOf r
+openRecord (Opened.Refused x) was = was
+
+-- ---- lookup: 0 and six numbers, 255 and the count alone, or the refusal with nothing changed
+
+abbrev pub lookupCode : Answer → ℕ
+lookupCode (Found x n) = 0
+lookupCode (Absent n) = 255
+lookupCode (Answer.Refused x) = refusalCode x
+
+abbrev pub lookupNumbers : Answer → List ℕ → List ℕ
+lookupNumbers (Found x n) was = n ∷ fiveOf x
+lookupNumbers (Absent n) was = set was 0 n
+lookupNumbers (Answer.Refused x) was = was
+
+-- ---- a page: 0 and its count and next chunk, 255 where the slice is too short, or the refusal with nothing changed
+
+abbrev pub pageCode : Page → ℕ
+pageCode (Entries n next) = 0
+pageCode Short = 255
+pageCode (Page.Refused x) = refusalCode x
+
+abbrev pub pageNumbers : Page → List ℕ → List ℕ
+pageNumbers (Entries n next) was = n ∷ next ∷ []
+pageNumbers Short was = was
+pageNumbers (Page.Refused x) was = was
+
+-- ---- a cursor as two numbers, chunk and entry
+
+abbrev pub cursorOf : List ℕ → Cursor
+cursorOf n = record { chunk = getD n 0 0; entry = getD n 1 0 }
+
+abbrev pub cursorNumbers : Cursor → List ℕ
+cursorNumbers at = at .chunk ∷ at .entry ∷ []
+
+-- ---- a step: 0 with the entry and the cursor moved on, 255 at the end, or the refusal; nothing changed but for an entry
+
+abbrev pub stepCode : Step → ℕ
+stepCode (Step.Entry x at) = 0
+stepCode (End at) = 255
+stepCode (Step.Refused x) = refusalCode x
+
+abbrev pub stepCursor : Step → List ℕ → List ℕ
+stepCursor (Step.Entry x at) was = cursorNumbers at
+stepCursor (End at) was = was
+stepCursor (Step.Refused x) was = was
+
+abbrev pub stepNumbers : Step → List ℕ → List ℕ
+stepNumbers (Step.Entry x at) was = fiveOf x
+stepNumbers (End at) was = was
+stepNumbers (Step.Refused x) was = was
+
+-- ---- the length of a part of the file
+
+abbrev pub partLength : List ℕ → ℕ → ℕ → ℕ
+partLength s place n = length (partOf s place n)

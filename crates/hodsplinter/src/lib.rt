@@ -1,0 +1,171 @@
+// The library for C: numbers and byte slices. A record is eleven numbers in the order of its fields; a refusal is its number plus 256 times its place.
+ghost use mathlib.Core.Path.{_≡_};
+ghost use lib.ListN.{length};
+ghost use Rattle.lookup.specs.Lookup.{lookedUp, trailAfter};
+ghost use Rattle.listing.specs.Listing.{startOf, stepped, pageOf, pageIn};
+ghost use Rattle.directory.specs.Opened.{opened};
+ghost use Rattle.hodsplinter.specs.Numbers.{recordIn, numbersOf, refusalCode, openCode, openRecord, lookupCode, lookupNumbers, cursorOf, cursorNumbers, stepCode, stepCursor, stepNumbers, pageCode, pageNumbers, partLength};
+use book::Refusal;
+use book::Report;
+use directory::Opened;
+use header::Record;
+use listing::Cursor;
+use listing::Page;
+use listing::Step;
+use lookup::Answer;
+
+// A refusal as one number.
+fn code(r: Refusal) -> u64
+    ensures { λ c. ⌜ c ≡ refusalCode r ⌝ }
+{
+    r.number as u64 + 256 * (r.chunk as u64)
+}
+
+// The record of eleven numbers.
+fn record_in(n: &[u64; 11]) -> Record
+    ensures { λ r. ⌜ r ≡ recordIn (now (n .entry)) ⌝ }
+{
+    Record {
+        version: n[0],
+        time: n[1],
+        language: n[2],
+        start: n[3],
+        count: n[4],
+        density: n[5],
+        depth: n[6],
+        root: n[7],
+        first: n[8],
+        last: n[9],
+        content: n[10],
+    }
+}
+
+// The eleven numbers of a record.
+fn record_numbers(r: Record) -> [u64; 11]
+    ensures { λ n. ⌜ n ≡ numbersOf r ⌝ }
+{
+    [
+        r.version,
+        r.time,
+        r.language,
+        r.start,
+        r.count,
+        r.density,
+        r.depth,
+        r.root,
+        r.first,
+        r.last,
+        r.content,
+    ]
+}
+
+// Opens a book: 0 and its record, or the refusal with nothing changed.
+#[no_mangle]
+pub extern "C" fn hods_open(file: &[u8], record: &mut [u64; 11]) -> u64
+    ensures answer { λ r. ⌜ r ≡ openCode (opened (now (file .entry))) ⌝ }
+    ensures numbers { λ _. ⌜ now («record» .exit) ≡ openRecord (opened (now (file .entry))) (now («record» .entry)) ⌝ }
+{
+    match directory::open(file) {
+        Opened::Book(b) => {
+            *record = record_numbers(b);
+            0
+        }
+        Opened::Refused(r) => code(r),
+    }
+}
+
+// Looks a name up: 0 found (count of chunks, name's place, name's length, section, offset, length), 255 absent (the count alone), or the refusal with
+// nothing changed. The trail gets the chunks of the descent.
+#[no_mangle]
+pub extern "C" fn hods_lookup(
+    file: &[u8],
+    record: &[u64; 11],
+    name: &[u8],
+    trail: &mut [u32],
+    answer: &mut [u64; 6],
+) -> u64
+    ensures answer { λ r. ⌜ r ≡ lookupCode (lookedUp (now (file .entry)) (recordIn (now («record» .entry))) (now (name .entry)) (length (now (trail .entry)))) ⌝ }
+    ensures trail { λ _. ⌜ now (trail .exit) ≡ trailAfter (now (file .entry)) (recordIn (now («record» .entry))) (now (name .entry)) (now (trail .entry)) ⌝ }
+    ensures numbers { λ _. ⌜ now (answer .exit) ≡ lookupNumbers (lookedUp (now (file .entry)) (recordIn (now («record» .entry))) (now (name .entry)) (length (now (trail .entry)))) (now (answer .entry)) ⌝ }
+{
+    match lookup::lookup(file, record_in(record), name, trail) {
+        Answer::Found(x, n) => {
+            *answer = [n as u64, x.place, x.length, x.section, x.offset, x.size];
+            0
+        }
+        Answer::Absent(n) => {
+            answer[0] = n as u64;
+            255
+        }
+        Answer::Refused(r) => code(r),
+    }
+}
+
+// The cursor at the start of a book's listing.
+#[no_mangle]
+pub extern "C" fn hods_start(record: &[u64; 11], cursor: &mut [u64; 2]) -> u64
+    ensures answer { λ r. ⌜ r ≡ 0 ⌝ }
+    ensures numbers { λ _. ⌜ now (cursor .exit) ≡ cursorNumbers (startOf (recordIn (now («record» .entry)))) ⌝ }
+{
+    let at = Cursor::start(record_in(record));
+    *cursor = [at.chunk, at.entry];
+    0
+}
+
+// The entry at a cursor: 0 with its five numbers and the cursor moved on, 255 at the end with nothing changed, or the refusal with nothing changed.
+#[no_mangle]
+pub extern "C" fn hods_step(
+    file: &[u8],
+    record: &[u64; 11],
+    cursor: &mut [u64; 2],
+    entry: &mut [u64; 5],
+) -> u64
+    ensures answer { λ r. ⌜ r ≡ stepCode (stepped (now (file .entry)) (recordIn (now («record» .entry))) (cursorOf (now (cursor .entry)))) ⌝ }
+    ensures cursor { λ _. ⌜ now (cursor .exit) ≡ stepCursor (stepped (now (file .entry)) (recordIn (now («record» .entry))) (cursorOf (now (cursor .entry)))) (now (cursor .entry)) ⌝ }
+    ensures numbers { λ _. ⌜ now (entry .exit) ≡ stepNumbers (stepped (now (file .entry)) (recordIn (now («record» .entry))) (cursorOf (now (cursor .entry)))) (now (entry .entry)) ⌝ }
+{
+    let at = Cursor {
+        chunk: cursor[0],
+        entry: cursor[1],
+    };
+    match at.step(file, record_in(record)) {
+        Step::Entry(x, next) => {
+            *cursor = [next.chunk, next.entry];
+            *entry = [x.place, x.length, x.section, x.offset, x.size];
+            0
+        }
+        Step::End(_) => 255,
+        Step::Refused(r) => code(r),
+    }
+}
+
+// The entries of one listing chunk, five numbers each: 0 with their count and the next chunk, 255 where there are too few places, or the refusal.
+#[no_mangle]
+pub extern "C" fn hods_chunk(
+    file: &[u8],
+    record: &[u64; 11],
+    chunk: u64,
+    entries: &mut [u64],
+    next: &mut [u64; 2],
+) -> u64
+    ensures answer { λ r. ⌜ r ≡ pageCode (pageOf (now (file .entry)) (recordIn (now («record» .entry))) chunk (length (now (entries .entry)))) ⌝ }
+    ensures entries { λ _. ⌜ now (entries .exit) ≡ pageIn (now (file .entry)) (recordIn (now («record» .entry))) chunk (now (entries .entry)) ⌝ }
+    ensures numbers { λ _. ⌜ now (next .exit) ≡ pageNumbers (pageOf (now (file .entry)) (recordIn (now («record» .entry))) chunk (length (now (entries .entry)))) (now (next .entry)) ⌝ }
+{
+    match listing::page_of(file, record_in(record), chunk, entries) {
+        Page::Entries(n, d) => {
+            *next = [n as u64, d as u64];
+            0
+        }
+        Page::Short => 255,
+        Page::Refused(r) => code(r),
+    }
+}
+
+// How many bytes a part of the file has: 0 where it is not inside.
+#[no_mangle]
+pub extern "C" fn hods_part(file: &[u8], place: u64, length: u64) -> u64
+    ensures { λ r. ⌜ r ≡ partLength (now (file .entry)) place «length» ⌝ }
+{
+    listing::part(file, place, length).len() as u64
+}
