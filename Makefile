@@ -1,7 +1,8 @@
 # make list    the sample book through the listing program
 # make test    every proof from nothing, every must-fail edit, every program, then the host-side tests
 # make bench   the figures of docs/BENCHMARKS.md
-.PHONY: list test bench
+# make hods    the command-line tool, host/target/release/hods, over the library for C
+.PHONY: list test bench hods
 
 list:
 	@rt check list >/dev/null
@@ -12,3 +13,12 @@ test:
 
 bench:
 	@tests/bench
+
+library = target/staticlib/libhodsplinter.a
+
+hods: $(library)
+	@cargo build --release --offline --locked --quiet --manifest-path host/Cargo.toml -p hods
+	@echo host/target/release/hods
+
+$(library): crates.txt $(shell find crates -type f)
+	@rt staticlib hodsplinter >/dev/null

@@ -36,6 +36,13 @@ uint64_t hods_chunk(const uint8_t *file, size_t len, const uint64_t record[11], 
 /* The length of that part of the file: the length asked for where it lies inside, else 0. */
 uint64_t hods_part(const uint8_t *file, size_t len, uint64_t place, uint64_t length);
 
+/* Writes the head of a new book, all that stands in front of its content, by the section Writer of docs/FORMAT.md. The entries are listing entries (name
+   length, name, section, offset, length), one directly behind another with rising names; density is 0 to 7, the content's length below 2^62. 0 with the
+   head at the front of out and its length in length[0], 204 + 4,096 for each chunk, at most 16,777,420; what is behind it in out stays. Else the refusal:
+   18 where these rules are broken, 19 where it takes more than 4,096 chunks or 5 levels, 20 where out is shorter than the head. */
+uint64_t hods_write_head(const uint8_t *entries, size_t len, uint32_t density, uint32_t time, uint32_t language, uint64_t content_length, uint8_t *out,
+                         size_t out_len, uint64_t length[1]);
+
 #ifdef __cplusplus
 }
 #endif

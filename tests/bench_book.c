@@ -1,4 +1,5 @@
-/* Measures opening, full listing by pages and lookups on one book: bench_book FILE. Times are the best of five rounds. */
+/* Measures opening, full listing by pages and lookups on one book, and writing its head anew: bench_book FILE. The head must be one that the writer lays
+   out. Times are the best of five rounds. */
 #include <pthread.h>
 #include <stdint.h>
 #include <stdio.h>
@@ -29,6 +30,43 @@ static size_t list_all(const uint8_t *file, size_t len, const uint64_t *record, 
     return count;
 }
 
+/* The entries of the book one directly behind another, as the writer takes them. */
+static size_t gather(const uint8_t *file, const uint64_t *record, uint8_t *entries) {
+    size_t size = 0;
+    uint32_t chunk = (uint32_t)record[8], tail;
+    while (chunk != 0xFFFFFFFFu) {
+        const uint8_t *at = file + record[3] + 84 + (size_t)chunk * 4096;
+        memcpy(&tail, at + 4, 4);
+        memcpy(entries + size, at + 20, 4096 - 20 - tail);
+        size += 4096 - 20 - tail;
+        memcpy(&chunk, at + 16, 4);
+    }
+    return size;
+}
+
+static uint8_t *the_entries, *the_head;
+static size_t the_size;
+
+static uint64_t write_head(const uint64_t *record, size_t len) {
+    uint64_t length[1];
+    return hods_write_head(the_entries, the_size, (uint32_t)record[5], (uint32_t)record[1], (uint32_t)record[2], len - record[10], the_head, record[10], length);
+}
+
+static double write_best(const uint8_t *file, size_t len, const uint64_t *record) {
+    double best = 1e9;
+    the_entries = malloc(len);
+    the_head = malloc(record[10]);
+    the_size = gather(file, record, the_entries);
+    for (int round = 0; round < 5; round++) {
+        double t = now();
+        uint64_t r = write_head(record, len);
+        t = now() - t;
+        if (r || memcmp(the_head, file, record[10])) { fprintf(stderr, "not the head of the book\n"); exit(1); }
+        if (t < best) best = t;
+    }
+    return best;
+}
+
 /* The deepest stack of one call, by a painted stack of its own. */
 static const uint8_t *the_file;
 static size_t the_len;
@@ -37,6 +75,7 @@ static uint64_t the_record[11];
 static void *call_open(void *x) { hods_open(the_file, the_len, the_record); return x; }
 static void *call_page(void *x) { uint64_t next[2]; hods_chunk(the_file, the_len, the_record, the_record[8], page, 4070, next); return x; }
 static void *call_lookup(void *x) { uint32_t trail[5]; uint64_t answer[6]; hods_lookup(the_file, the_len, the_record, (const uint8_t *)"~", 1, trail, 5, answer); return x; }
+static void *call_write(void *x) { write_head(the_record, the_len); return x; }
 static void *call_nothing(void *x) { return x; }
 
 static size_t deepest(void *(*call)(void *)) {
@@ -104,10 +143,14 @@ int main(int argc, char **argv) {
     printf("%zu bytes, %llu chunks, %zu entries: open %.2f ms, %.0f MB/s; list %.2f ms, %.0f MB/s; lookup %.2f us found, %.2f us absent, %.2f chunks\n", len,
            (unsigned long long)record[4], entries, open_best * 1e3, (double)len / open_best / 1e6, list_best * 1e3, (double)len / list_best / 1e6, hit_best * 1e6,
            miss_best * 1e6, (double)chunks / 100);
+    double write_time = write_best(file, len, record);
+    printf("write the head, %llu bytes, from %zu bytes of entries: %.2f ms, %.0f MB/s\n", (unsigned long long)record[10], the_size, write_time * 1e3,
+           (double)record[10] / write_time / 1e6);
     the_file = file;
     the_len = len;
     size_t idle = deepest(call_nothing);
     size_t open_stack = deepest(call_open) - idle, page_stack = deepest(call_page) - idle, lookup_stack = deepest(call_lookup) - idle;
-    printf("peak stack: open %zu bytes, page %zu bytes, lookup %zu bytes\n", open_stack, page_stack, lookup_stack);
+    size_t write_stack = deepest(call_write) - idle;
+    printf("peak stack: open %zu bytes, page %zu bytes, lookup %zu bytes, write %zu bytes\n", open_stack, page_stack, lookup_stack, write_stack);
     return 0;
 }

@@ -1,12 +1,13 @@
 -- Laws of a part of a list.
 -- Assumes nothing.
-use mathlib.Core.Path.{_≡_, refl}
+use mathlib.Core.Path.{_≡_, refl, sym, ap, _∙_}
 use mathlib.Core.List.{List, [], _∷_, _++_}
-use Prim.Native.Nat.{ℕ, _+_, _≤_, _<_}
+use Prim.Native.Nat.{ℕ, zero, suc, _+_, _≤_, _<_}
+use native.Mathlib.Nat.{zero-add, suc-add}
 use native.Mathlib.Numerals.{add-one}
 use native.Mathlib.Omega.{arith}
-use lib.ListN.{length, getD, drop, length-drop, List·getD-eq-default}
-use lib.Seq.{drop-cons, getD-take, getD-drop, length-take-le, take-append-seam, drop-at}
+use lib.ListN.{length, getD, take, drop, length-drop, List·getD-eq-default}
+use lib.Seq.{drop-cons, drop-drop, getD-take, getD-drop, length-take-le, take-nil, take-take, take-append-seam, drop-at}
 use borrow.Author.Tests.{le-leb, lt-leb}
 use Rattle.fields.specs.Part.{part, partOf}
 
@@ -36,3 +37,20 @@ module _ (s : List ℕ) (at n : ℕ) where
 -- the part in the middle
 pub part-middle : (p l q : List ℕ) → part (p ++ (l ++ q)) (length p) (length l) ≡ l
 part-middle p l q = rw (drop-at p (l ++ q) (length p) refl, take-append-seam)
+
+-- a part is read off any list that begins alike
+part-front : (x : List ℕ) (at n : ℕ) → part x at n ≡ drop at (take (at + n) x)
+part-front x zero n = ap (λ (m : ℕ). take m x) (sym (zero-add n))
+part-front [] (suc at) n = take-nil n ∙ sym (ap (drop (suc at)) (take-nil (suc at + n)))
+part-front (y ∷ x) (suc at) n = part-front x at n ∙ ap (λ (m : ℕ). drop (suc at) (take m (y ∷ x))) (sym (suc-add at n))
+
+pub part-alike : (x y : List ℕ) (at n end : ℕ) → at + n ≡ end → take end x ≡ take end y → part x at n ≡ part y at n
+part-alike x y at n end h e =
+    part-front x at n
+    ∙ ap (λ (m : ℕ). drop at (take m x)) h ∙ ap (drop at) e ∙ ap (λ (m : ℕ). drop at (take m y)) (sym h)
+    ∙ sym (part-front y at n)
+
+-- a part of a part
+pub part-within : (s : List ℕ) (at k start n : ℕ) → start + n ≤ k → part (part s at k) start n ≡ part s (at + start) n
+part-within s at k start n h =
+    part-alike (part s at k) (drop at s) start n (start + n) refl (take-take (start + n) k (drop at s) h) ∙ ap (take n) (drop-drop start at s)

@@ -17,6 +17,8 @@ use Rattle.listing.specs.declared.Step.{Step}
 use Rattle.listing.specs.declared.Step.the-variants.{End}
 use Rattle.listing.specs.declared.Page.{Page}
 use Rattle.listing.specs.declared.Page.the-variants.{Entries, Short}
+use Rattle.head.specs.declared.Written.{Written}
+use Rattle.head.specs.declared.Written.the-variants.{Length}
 
 -- ---- a record as eleven numbers, in the order of its fields
 
@@ -108,3 +110,13 @@ stepNumbers (Step.Refused x) was = was
 
 abbrev pub partLength : List ℕ → ℕ → ℕ → ℕ
 partLength s place n = length (partOf s place n)
+
+-- ---- the writer: 0 and the head's length, or the refusal with nothing changed
+
+abbrev pub writeCode : Written → ℕ
+writeCode (Length n) = 0
+writeCode (Written.Refused x) = refusalCode x
+
+abbrev pub writeNumbers : Written → List ℕ → List ℕ
+writeNumbers (Length n) was = n ∷ []
+writeNumbers (Written.Refused x) was = was

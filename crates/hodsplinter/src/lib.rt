@@ -4,10 +4,13 @@ ghost use lib.ListN.{length};
 ghost use Rattle.lookup.specs.Lookup.{lookedUp, trailAfter};
 ghost use Rattle.listing.specs.Listing.{startOf, stepped, pageOf, pageIn};
 ghost use Rattle.directory.specs.Opened.{opened};
-ghost use Rattle.hodsplinter.specs.Numbers.{recordIn, numbersOf, refusalCode, openCode, openRecord, lookupCode, lookupNumbers, cursorOf, cursorNumbers, stepCode, stepCursor, stepNumbers, pageCode, pageNumbers, partLength};
+ghost use Rattle.hodsplinter.specs.Numbers.{recordIn, numbersOf, refusalCode, openCode, openRecord, lookupCode, lookupNumbers, cursorOf, cursorNumbers, stepCode, stepCursor, stepNumbers, pageCode, pageNumbers, partLength, writeCode, writeNumbers};
+ghost use Rattle.layout.specs.Layout.{layoutFor, headBytes};
+ghost use Rattle.head.specs.Head.{written, outputFor};
 use book::Refusal;
 use book::Report;
 use directory::Opened;
+use head::Written;
 use header::Record;
 use listing::Cursor;
 use listing::Page;
@@ -168,4 +171,28 @@ pub extern "C" fn hods_part(file: &[u8], place: u64, length: u64) -> u64
     ensures { λ r. ⌜ r ≡ partLength (now (file .entry)) place «length» ⌝ }
 {
     listing::part(file, place, length).len() as u64
+}
+
+// Writes the head of a book with these entries and content of that length: 0 and the head's length, or the refusal with nothing changed.
+#[no_mangle]
+pub extern "C" fn hods_write_head(
+    entries: &[u8],
+    density: u32,
+    time: u32,
+    language: u32,
+    content_length: u64,
+    out: &mut [u8],
+    head_length: &mut [u64; 1],
+) -> u64
+    ensures answer { λ r. ⌜ r ≡ writeCode (written (now (entries .entry)) density «content_length» (length (now (out .entry)))) ⌝ }
+    ensures output { λ _. ⌜ now (out .exit) ≡ outputFor (written (now (entries .entry)) density «content_length» (length (now (out .entry)))) (headBytes density time language «content_length» (layoutFor density «content_length» (now (entries .entry)))) (now (out .entry)) ⌝ }
+    ensures numbers { λ _. ⌜ now («head_length» .exit) ≡ writeNumbers (written (now (entries .entry)) density «content_length» (length (now (out .entry)))) (now («head_length» .entry)) ⌝ }
+{
+    match head::write_head(entries, density, time, language, content_length, out) {
+        Written::Length(n) => {
+            *head_length = [n];
+            0
+        }
+        Written::Refused(r) => code(r),
+    }
 }

@@ -1,9 +1,8 @@
 -- `compare` meets its contract. The loop's invariant: what is left of the two names compares as the whole names do.
 -- Assumes nothing.
-use mathlib.Core.Path.{_≡_, refl, sym, _∙_}
+use mathlib.Core.Path.{_≡_, sym, _∙_}
 use Prim.Native.Nat.{_≤_, _-_}
 use native.Mathlib.Omega.{arith}
-use borrow.Author.Needs.{needs}
 use lib.ListN.{length, drop}
 use Rattle.names.specs.Names.{compared}
 use Rattle.names.specs.declared.Order.the-variants.{Less, Equal, Greater}
@@ -17,8 +16,14 @@ Inv-loop a b i₀ i = (i ≤ length a) × (i ≤ length b) × (compared a b ≡ 
 abbrev μ-loop : tie.MeasureT-loop
 μ-loop a b i₀ i = length a - i
 
+common8-requires : tie.Need-common8-requires Inv-loop μ-loop
+common8-requires c κs = tt
+
+common-requires : tie.Need-common-requires Inv-loop μ-loop
+common-requires c κs = c .common8 .ensures
+
 loop-holds : tie.Need-loop-holds Inv-loop μ-loop
-loop-holds c = (search needs, search needs, refl)
+loop-holds c = c .common .ensures
 
 returns : tie.Need-returns Inv-loop μ-loop
 returns c = let l = c .before .before in sym (l .loop .inv .2 ∙ second-ends _ _ (l .loop .i) (omega arith) (omega arith))
@@ -68,6 +73,8 @@ compare-spec =
     (tie.spec
     Inv-loop
     μ-loop
+    common8-requires
+    common-requires
     loop-holds
     returns
     shared-slice-read-fold

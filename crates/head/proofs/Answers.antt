@@ -1,0 +1,156 @@
+-- The whole head, from its parts (`head-written`), and the writer's answers.
+-- Assumes nothing.
+use mathlib.Core.Path.{_≡_, refl, sym, ap, subst, _∙_}
+use mathlib.Core.Bool.{true, false}
+use mathlib.Core.List.{List, _++_, map, flatten, append-assoc}
+use Prim.Native.Nat.{ℕ, _+_, _-_, _*_, _^_, _≤_, _<_, min}
+use native.Mathlib.Omega.{arith}
+use lib.ListN.{length, take, drop, length-append, length-map}
+use lib.Seq.{sets, take-at}
+use borrow.Author.Tests.{le-leb, lt-leb}
+use Rattle.fields.proofs.Put.{sets-parts}
+use Rattle.chunk.specs.Chunk.{spacingOf}
+use Rattle.source.specs.Stored.{Stored, storedOf}
+use Rattle.source.specs.Input.{given}
+use Rattle.pack.specs.Starts.{chunksFrom}
+use Rattle.pack.proofs.Levels.{chunks-given}
+use Rattle.compose.proofs.Words.{three}
+use Rattle.layout.specs.Headers.{headLength, fileHeader, sectionZero, directoryHeader}
+use Rattle.layout.specs.Layout.{takes, Layout, layoutOf, layoutFor, chunkCount, depthOf, smallEnough, rootOf, chunksOf, chunkList, headBytes}
+use Rattle.layout.specs.RoundTrip.{newBook, RoundTrip}
+use Rattle.layout.proofs.RoundTrips.{round-trip}
+use Rattle.head.specs.Head.{refusal, written, outputFor, Worth}
+use Rattle.head.specs.Plan.{Made, LevelFits, IndexFits, indexOf, headersOf, Ready}
+use Rattle.head.specs.declared.Written.{Written}
+use Rattle.head.specs.declared.Written.the-variants.{Length}
+use Rattle.layout.proofs.Sizes.{length-file, length-section, length-directory}
+use Rattle.head.proofs.Lengths.{flatten-append, length-level}
+
+-- ---- the parts
+
+length-headers : (density time language content m depth count : ℕ) → length (headersOf density time language content m depth count) ≡ 204
+unfolding headersOf
+length-headers density time language content m depth count =
+    let a = fileHeader time language count in
+    let b = sectionZero (headLength count + content) in
+    let d = directoryHeader language density depth (rootOf depth count) (m - 1) count in
+    omega (arith, length-append a (b ++ d), length-append b d, length-file time language count, length-section (headLength count + content), length-directory language density depth (rootOf depth count) (m - 1) count)
+
+module _ (content : ℕ) (s starts : List ℕ) (n m depth count room : ℕ) (r : Ready content s starts n m depth count room) where
+  abbrev l : Layout
+  l = layoutOf n (given content s)
+
+  leaves-is : map (map (storedOf s)) (chunksFrom content s (take 0 starts) true n 0) ≡ l .leaves
+  unfolding layoutOf
+  leaves-is = chunks-given content s (take 0 starts) n
+
+  leaves-count : length (chunksFrom content s (take 0 starts) true n 0) ≡ m
+  leaves-count = sym (length-map (chunksFrom content s (take 0 starts) true n 0) (map (storedOf s))) ∙ ap length leaves-is ∙ sym (r .made .listings)
+
+  pub ready-level : LevelFits content s starts true n 0 0 room
+  ready-level =
+      let w = r .made in
+      record {
+        known = omega arith;
+        few = omega (arith, leaves-count, w .counted, w .listings, w .small);
+        enough = omega (arith, leaves-count, w .counted, w .listings, r .enough);
+      }
+
+  pub ready-index : IndexFits content s starts n m room
+  ready-index =
+      let w = r .made in
+      record {
+        listings = w .listings;
+        small = omega (arith, w .counted, w .small);
+        flat = omega (arith, w .deep, w .flat);
+        known = r .known;
+        named = w .named;
+        enough = omega (arith, w .counted, r .enough);
+      }
+
+  pub head-written : (density time language : ℕ) → n ≡ spacingOf density → (o₀ o₁ o₂ o₃ : List ℕ)
+      → o₁ ≡ sets o₀ 0 (headersOf density time language content m depth count)
+      → o₂ ≡ sets o₁ (204 + 4096 * 0) (flatten (chunksOf true n m 0 (map (map (storedOf s)) (chunksFrom content s (take 0 starts) true n 0))))
+      → o₃ ≡ sets o₂ (204 + 4096 * m) (flatten (indexOf content s n m))
+      → o₃ ≡ sets o₀ 0 (headBytes density time language content l)
+  unfolding headBytes headersOf chunkList
+  head-written density time language ns o₀ o₁ o₂ o₃ w₁ w₂ w₃ =
+      let w = r .made in
+      let H = headersOf density time language content m depth count in
+      let A = flatten (chunksOf true n m 0 (map (map (storedOf s)) (chunksFrom content s (take 0 starts) true n 0))) in
+      let B = flatten (indexOf content s n m) in
+      let lH = length-headers density time language content m depth count in
+      let lA : length A ≡ 4096 * m = length-level true n m s content (take 0 starts) 0 0 ∙ ap (λ (j : ℕ). 4096 * j) leaves-count in
+      let x = fileHeader time language count in
+      let y = sectionZero (headLength count + content) in
+      let z = directoryHeader language density depth (rootOf depth count) (m - 1) count in
+      let F : ℕ → ℕ → ℕ → ℕ → List (List ℕ) → List ℕ =
+      λ m d c k cs. fileHeader time language c ++ (sectionZero (headLength c + content) ++ (directoryHeader language density d (rootOf d c) (m - 1) c ++ flatten cs)) in
+      let C : ℕ → ℕ → List (List ℕ) = λ j i. chunksOf true j i 0 (l .leaves) ++ chunksOf false j i i (flatten (l .levels)) in
+      three o₀ o₁ o₂ o₃ 0 (204 + 4096 * 0) (204 + 4096 * m) H A B w₁ (omega arith) w₂ (omega arith) w₃
+      ∙ ap (sets o₀ 0)
+      (append-assoc x (y ++ z) (A ++ B)
+      ∙ ap (λ (t : List ℕ). x ++ t) (append-assoc y z (A ++ B))
+      ∙ ap (λ (t : List (List Stored)). x ++ (y ++ (z ++ (flatten (chunksOf true n m 0 t) ++ B)))) leaves-is
+      ∙ ap (λ (t : List ℕ). x ++ (y ++ (z ++ t))) (sym (flatten-append (chunksOf true n m 0 (l .leaves)) (indexOf content s n m)))
+      ∙ ap (λ (t : ℕ). F m depth count 0 (C t m)) ns
+      ∙ ap (λ (t : ℕ). F t depth count 0 (C (spacingOf density) t)) (w .listings)
+      ∙ ap (λ (t : ℕ). F (length (l .leaves)) t count 0 (C (spacingOf density) (length (l .leaves)))) (w .deep)
+      ∙ ap (λ (t : ℕ). F (length (l .leaves)) (depthOf l) t 0 (C (spacingOf density) (length (l .leaves)))) (w .counted))
+
+-- ---- the density
+
+-- a density that is taken is not cut
+pub spacing-is : (density n : ℕ) → density ≤ 7 → n ≡ spacingOf (min density 16) → n ≡ spacingOf density
+spacing-is density n h e = let d : min density 16 ≡ density = omega arith in e ∙ ap spacingOf d
+
+-- ---- the answers
+
+module _ (s : List ℕ) (density time language content : ℕ) (out : List ℕ) where
+  abbrev room : ℕ
+  room = length out
+
+  abbrev head : List ℕ
+  head = headBytes density time language content (layoutFor density content s)
+
+  abbrev Answers : Written → List ℕ → Type 0
+  Answers r o = (r ≡ written s density content room) × ((o ≡ outputFor r head out) × Worth r density time language content s o)
+
+  pub answer-18 : (r : Written) → r ≡ refusal 18 → takes density content s ≡ false → Answers r out
+  unfolding written
+  answer-18 r e h = rw e (rw h, (refl, tt))
+
+  pub answer-19 : (r : Written) → r ≡ refusal 19 → takes density content s ≡ true → smallEnough (layoutFor density content s) ≡ false → Answers r out
+  unfolding written
+  answer-19 r e h k = rw e (rw (h, k), (refl, tt))
+
+  module _ (h : takes density content s ≡ true) (small : smallEnough (layoutFor density content s) ≡ true) (count : ℕ) (c : count ≡ chunkCount (layoutFor density content s)) where
+    pub answer-20 : (r : Written) → r ≡ refusal 20 → room < headLength count → Answers r out
+    unfolding written
+    answer-20 r e short = rw e (rw (h, small, ← c, lt-leb (headLength count) room short), (refl, tt))
+
+    -- the head with content behind it, by the round trip
+    worth : time < 2 ^ 32 → language < 2 ^ 32 → (o : List ℕ) → o ≡ head ++ drop (headLength count) out → length head ≡ headLength count
+        → Worth (Length (headLength count)) density time language content s o
+    worth t g o w lh = λ rest e.
+        let front : take (headLength count) o ≡ head = ap (take (headLength count)) w ∙ take-at head (drop (headLength count) out) (headLength count) lh in
+        let file : newBook density time language s rest ≡ take (headLength count) o ++ rest =
+        ap (λ (n : ℕ). headBytes density time language n (layoutFor density n s) ++ rest) e ∙ ap (λ (x : List ℕ). x ++ rest) (sym front) in
+        let r = round-trip density time language s rest t g
+        (subst (λ (n : ℕ). takes density n s ≡ true) (sym e) h) (subst (λ (n : ℕ). smallEnough (layoutFor density n s) ≡ true) (sym e) small) in
+        subst (RoundTrip density time language content s) file (subst (λ (n : ℕ). RoundTrip density time language n s (newBook density time language s rest)) e r)
+
+    pub answer-head : time < 2 ^ 32 → language < 2 ^ 32 → (o : List ℕ) → headLength count ≤ room → length head ≡ headLength count → o ≡ sets out 0 head
+        → Answers (Length (headLength count)) o
+    unfolding written
+    answer-head t g o enough lh w =
+        let z : 0 + length head ≡ headLength count = omega arith in
+        let p = w ∙ sets-parts out 0 head (omega arith) ∙ ap (λ (i : ℕ). head ++ drop i out) z in
+        (rw (h, small, ← c, le-leb (headLength count) room enough), (p, worth t g o p lh))
+
+pub small-is : (content : ℕ) (s : List ℕ) (n : ℕ) (starts : List ℕ) (m depth count : ℕ) → Made content s n starts m depth count → smallEnough (layoutOf n (given content s)) ≡ true
+unfolding smallEnough
+small-is content s n starts m depth count w =
+    let c = w .counted in
+    let d = w .deep in
+    rw (le-leb (chunkCount (layoutOf n (given content s))) 4096 (omega (arith, w .small)), le-leb (depthOf (layoutOf n (given content s))) 5 (omega (arith, w .flat)))

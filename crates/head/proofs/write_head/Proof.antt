@@ -1,0 +1,128 @@
+-- `head::write_head` meets its contract. Assumes nothing.
+use mathlib.Core.Path.{_≡_, sym, ap, _∙_}
+use mathlib.Core.Bool.{true}
+use native.Mathlib.Omega.{arith}
+use denote.Ref.{now}
+use Rattle.fields.proofs.Tests.{held, failed}
+use Rattle.chunk.specs.Chunk.{spacingOf}
+use Rattle.layout.specs.Headers.{headLength}
+use Rattle.layout.specs.Layout.{takes}
+use Rattle.layout.proofs.Taken.{takes-told, some-leaves}
+use Rattle.layout.proofs.Filled.{list-whole}
+use Rattle.layout.proofs.Places.{length-head}
+use Rattle.head.specs.Plan.{Made}
+use Rattle.head.proofs.Answers.{answer-18, answer-19, answer-20, answer-head, small-is, spacing-is}
+use borrow.Author.Needs.{needs}
+use Rattle.head.proofs.write_head.Statement.{statement}
+use Rattle.head.proofs.write_head.Tie as tie
+
+-- the inputs are taken
+taken : (c : tie.Else1) → let a = c .before .before .before .before .args in takes (a .density) (a .content-length) (now (a .entries)) ≡ true
+taken c = held (c .before .is-taken .ensures) (c .if1 .left)
+
+spaced : (c : tie.After-spacing) → c .spacing .result ≡ spacingOf (c .before .before .before .before .before .args .density)
+spaced c = spacing-is _ _ (takes-told _ _ _ (taken (c .before)) .dense) (c .spacing .ensures)
+
+-- the levels are planned
+made : (c : tie.After-m) → let a = c .before .before .before .before .before .before .before .before .before .before .args in let v = c .m .given .0 in
+    Made (a .content-length) (now (a .entries)) (spacingOf (a .density)) (c .before .before .before .plan .last .1 .1 .1 .0) (v .0) (v .1 .0) (v .1 .1 .0)
+made c = rw (spaced (c .before .before .before .before .before)) at (rw (c .m .given .1) at (c .before .before .before .plan .ensures))
+
+is-taken-requires : tie.Need-is-taken-requires
+is-taken-requires c κs = search needs
+
+refusal-requires : tie.Need-refusal-requires
+refusal-requires c κs = search needs
+
+returns : tie.Need-returns
+returns c = let a = c .before .before .before .before .before .args in answer-18 (now (a .entries)) (a .density) (a .time) (a .language) (a .content-length) (now (a .out)) _ (c .refusal .ensures) (failed (c .before .before .is-taken .ensures) (c .before .if1 .taken))
+
+spacing-requires : tie.Need-spacing-requires
+spacing-requires c κs = search needs
+
+slice-aggregate-plan : tie.Need-slice-aggregate-plan
+slice-aggregate-plan c = search needs
+
+plan-requires : tie.Need-plan-requires
+plan-requires c κs = search needs
+
+enum-known-m : tie.Need-enum-known-m
+enum-known-m c = search needs
+
+enum-told : tie.Need-enum-told
+enum-told c = search needs
+
+refusal-requires-2 : tie.Need-refusal-requires-2
+refusal-requires-2 c κs = search needs
+
+returns-2 : tie.Need-returns-2
+returns-2 c = let a = c .before .before .before .before .before .before .before .before .before .before .before .args in answer-19 (now (a .entries)) (a .density) (a .time) (a .language) (a .content-length) (now (a .out)) _ (c .refusal2 .ensures) (taken (c .before .before .before .before .before .before .before)) (rw (spaced (c .before .before .before .before .before .before)) at (rw (c .before .enum-told .given .1) at (c .before .before .before .before .plan .ensures)))
+
+mul-len : tie.Need-mul-len
+mul-len c = omega (arith, made (c .before) .small)
+
+add-len : tie.Need-add-len
+add-len c = omega (arith, made (c .before) .small)
+
+refusal-requires-3 : tie.Need-refusal-requires-3
+refusal-requires-3 c κs = search needs
+
+returns-3 : tie.Need-returns-3
+returns-3 c =
+    let w = made (c .before .before .before) in
+    let a = c .before .before .before .before .before .before .before .before .before .before .before .before .before .args in
+    answer-20 (now (a .entries)) (a .density) (a .time) (a .language) (a .content-length) (now (a .out)) (taken (c .before .before .before .before .before .before .before .before .before)) (small-is _ _ _ _ _ _ _ w) _ (w .counted) _ (c .refusal3 .ensures) (c .before .if2 .taken)
+
+slice-aggregate-put-head : tie.Need-slice-aggregate-put-head
+slice-aggregate-put-head c = search needs
+
+put-head-requires : tie.Need-put-head-requires
+put-head-requires c κs =
+    let a = c .before .before .before .before .before .before .before .before .before .before .before .before .before .before .args in
+    let t = taken (c .before .before .before .before .before .before .before .before .before .before) in
+    let w = made (c .before .before .before .before) in
+    let g = takes-told _ _ _ t in
+    let n = spaced (c .before .before .before .before .before .before .before .before .before) in (
+      rw n (record {
+        made = w;
+        known = c .before .before .before .before .before .before .before .plan .kept .1 .1 .1 .0;
+        some = omega (arith, w .listings, some-leaves (spacingOf (a .density)) (a .content-length) (now (a .entries)) (g .some));
+        enough = c .before .before .if2 .left;
+      }),
+      (n, g .small),
+    )
+
+same-length : tie.Need-same-length
+same-length c = search needs
+
+returns-4 : tie.Need-returns-4
+returns-4 c =
+    let t = taken (c .before .before .before .before .before .before .before .before .before .before .before .before .before) in
+    let w = made (c .before .before .before .before .before .before .before) in
+    let a = c .before .before .before .before .before .before .before .before .before .before .before .before .before .before .before .before .before .args in
+    answer-head (now (a .entries)) (a .density) (a .time) (a .language) (a .content-length) (now (a .out)) t (small-is _ _ _ _ _ _ _ w) _ (w .counted) (c .before .before .before .before .before .before .before .before .before .before .before .before .before .before .before .before .before .fits .time .fits) (c .before .before .before .before .before .before .before .before .before .before .before .before .before .before .before .before .before .fits .language .fits) _ (c .before .before .before .before .before .if2 .left)
+    (length-head (a .density) (a .time) (a .language) (a .content-length) _ (list-whole (spacingOf (a .density)) (a .content-length) (now (a .entries))) ∙ ap headLength (sym (w .counted)))
+    (rw (spaced (c .before .before .before .before .before .before .before .before .before .before .before .before)) at (c .before .before .put-head .ensures))
+
+pub write-head-spec : {M : Type 1} → statement M
+write-head-spec =
+    tie.close
+    (tie.spec
+    is-taken-requires
+    refusal-requires
+    returns
+    spacing-requires
+    slice-aggregate-plan
+    plan-requires
+    enum-known-m
+    enum-told
+    refusal-requires-2
+    returns-2
+    mul-len
+    add-len
+    refusal-requires-3
+    returns-3
+    slice-aggregate-put-head
+    put-head-requires
+    same-length
+    returns-4)

@@ -1,0 +1,60 @@
+-- Chunks whose entries fit are as long as a chunk, and have room for what stands in them.
+-- Assumes nothing.
+use mathlib.Core.Path.{_≡_, ap, _∙_}
+use mathlib.Core.Bool.{Bool, true, false}
+use mathlib.Core.List.{List, [], _∷_, flatten}
+use Prim.Native.Nat.{ℕ, _+_, _*_, _≤_}
+use native.Mathlib.Omega.{arith}
+use lib.ListN.{length}
+use Rattle.chunk.specs.Chunk.{quickCount}
+use Rattle.source.specs.Stored.{Stored}
+use Rattle.source.specs.Input.{given}
+use Rattle.source.proofs.All.{All, none, more, all-weaken, all-append}
+use Rattle.source.proofs.Kept.{Kept, given-kept}
+use Rattle.pack.specs.Groups.{fits}
+use Rattle.pack.specs.Levels.{entrySize}
+use Rattle.pack.proofs.Groups.{Fit, sizes}
+use Rattle.pack.proofs.Filling.{fits-small}
+use Rattle.pack.proofs.Fitting.{Short, level-fit, level-short, index-fit}
+use Rattle.compose.specs.NewChunk.{entriesEnd}
+use Rattle.compose.proofs.Composing.{run-length}
+use Rattle.compose.proofs.Whole.{length-chunk}
+use Rattle.layout.specs.Layout.{Layout, layoutOf, prevOf, nextOf, chunksOf, chunkList}
+use Rattle.layout.proofs.Sizes.{length-chunks, length-flat}
+
+module _ (k : Bool) (n : ℕ) where
+  pub fit-room : (g : List Stored) → Fit (entrySize k) (fits k n) g → entriesEnd k g + (2 * quickCount n (length g) + 2) ≤ 4096
+  fit-room g f = omega (arith, fits-small k n (length g) (sizes (entrySize k) g) (f .small), run-length k g)
+
+  pub chunks-whole : (m c : ℕ) (gs : List (List Stored)) → All (Fit (entrySize k) (fits k n)) gs → All (λ (x : List ℕ). length x ≡ 4096) (chunksOf k n m c gs)
+  unfolding chunksOf
+  chunks-whole m c [] none = none
+  chunks-whole m c (g ∷ gs) (more f fs) = more (length-chunk k n (prevOf c) (nextOf m c) g (fit-room g f)) (chunks-whole m (c + 1) gs fs)
+
+  pub length-all : (m c : ℕ) (gs : List (List Stored)) → All (Fit (entrySize k) (fits k n)) gs → length (flatten (chunksOf k n m c gs)) ≡ 4096 * length gs
+  length-all m c gs fs =
+      length-flat (chunksOf k n m c gs) (chunks-whole m c gs fs) ∙ ap (λ (j : ℕ). 4096 * j) (length-chunks k n m c gs)
+
+-- ---- the chunks of a new layout
+
+pub shorts : (content : ℕ) (s : List ℕ) → All Short (given content s)
+shorts content s = all-weaken (λ (e : Stored) (k : Kept content e). k .short) (given-kept content s)
+
+module _ (n content : ℕ) (s : List ℕ) where
+  abbrev l : Layout
+  l = layoutOf n (given content s)
+
+  pub leaves-fit : All (Fit (entrySize true) (fits true n)) (l .leaves)
+  unfolding layoutOf
+  leaves-fit = level-fit n true (given content s) (shorts content s)
+
+  pub nodes-fit : All (Fit (entrySize false) (fits false n)) (flatten (l .levels))
+  unfolding layoutOf
+  nodes-fit = index-fit n 5 0 (l .leaves) (level-short n true (given content s) (shorts content s))
+
+  pub list-whole : All (λ (c : List ℕ). length c ≡ 4096) (chunkList n l)
+  unfolding chunkList
+  list-whole =
+      let m = length (l .leaves) in
+      all-append (chunksOf true n m 0 (l .leaves)) (chunksOf false n m m (flatten (l .levels)))
+      (chunks-whole true n m 0 (l .leaves) leaves-fit) (chunks-whole false n m m (flatten (l .levels)) nodes-fit)

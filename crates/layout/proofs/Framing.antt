@@ -1,0 +1,135 @@
+-- The headers of a new book are read back: they pass the checks of a head, give the record that the inputs fix, and each chunk stands where
+-- the record says.
+-- Assumes nothing.
+use Prim.Native.Nat.{ℕ, _+_, _-_, _*_, _≤_, _<_, _^_}
+use native.Mathlib.Omega.{arith}
+use native.Mathlib.Decide.{ℕ-discrete}
+use mathlib.Core.Path.{_≡_, refl, sym, ap, _∙_}
+use mathlib.Core.Bool.{true, false}
+use mathlib.Core.List.{List, [], _∷_, _++_, flatten}
+use lib.ListN.{length, getD}
+use borrow.Author.Tests.{leb-true, le-leb, eq-eqb, ne-eqb}
+use Rattle.fields.specs.Le.{le}
+use Rattle.fields.proofs.Parts.{part-inside}
+use Rattle.fields.proofs.Tests.{and-both}
+use Rattle.chunk.specs.Chunk.{spacingOf}
+use Rattle.header.specs.Header.{longEnough, lengthRight, headerIn, sectionIn, directoryIn, recordFrom, headOf}
+use Rattle.header.specs.declared.Head.the-variants.{Good}
+use Rattle.header.proofs.Checks.{Rules, head-good}
+use Rattle.book.specs.Book.{chunkBytes}
+use Rattle.source.specs.Stored.{Stored}
+use Rattle.source.proofs.All.{All}
+use Rattle.compose.specs.NewChunk.{newChunk}
+use Rattle.layout.specs.Headers.{headLength}
+use Rattle.layout.specs.Layout.{Layout, chunkCount, depthOf, rootOf, smallEnough, prevOf, nextOf, chunkList, headBytes}
+use Rattle.layout.specs.RoundTrip.{recordFor}
+use Rattle.layout.proofs.Standing.{list-leaf, list-node}
+use Rattle.layout.proofs.Places.{file-part, section-part, directory-part, length-book, book-chunk}
+use Rattle.layout.proofs.Fields.{FileRead, DirectoryRead, file-read, section-read, directory-read}
+use Rattle.layout.proofs.Passing.{version-pass, sections-pass, directory-pass}
+
+-- no levels, no index chunks
+flat-none : (gs : List (List (List Stored))) → length gs ≡ 0 → length (flatten gs) ≡ 0
+unfolding flatten
+flat-none [] h = refl
+flat-none (g ∷ gs) h = absurd (omega arith)
+
+-- the root has room in its field
+root-small : (p n : ℕ) → n ≤ 4096 → rootOf p n < 2 ^ 32
+unfolding rootOf
+root-small p n h =
+    elim (ℕ-discrete p 1) [
+      | yes e ↦ rw (eq-eqb p 1 e) (omega arith)
+      | no e ↦ rw (ne-eqb p 1 e) (omega arith)
+    ]
+
+-- headers that hold the numbers of a new book give its record
+record-is : (density time language : ℕ) (l : Layout) (h d : List ℕ) → FileRead time language (chunkCount l) h
+    → DirectoryRead density (depthOf l) (rootOf (depthOf l) (chunkCount l)) (length (l .leaves) - 1) (chunkCount l) d
+    → recordFrom h d ≡ recordFor density time language l
+unfolding recordFrom recordFor
+record-is density time language l h d f r =
+    simp
+    (f .version, f .time, f .language, f .directory, f .content, r .density, r .depth, r .root, r .first, r .last, r .count)
+
+module _ (density time language : ℕ) (l : Layout) (content : List ℕ) (dense : density ≤ 7) (t : time < 2 ^ 32) (g : language < 2 ^ 32)
+    (size : length content < 2 ^ 62) (small : smallEnough l ≡ true) (some : 0 < length (l .leaves))
+    -- one listing chunk is the whole directory, more have an index over them
+    (one : length (l .levels) ≡ 0 → length (l .leaves) ≡ 1) (more : 0 < length (l .levels) → 0 < length (flatten (l .levels)))
+    -- every chunk is as long as a chunk
+    (whole : All (λ (c : List ℕ). length c ≡ 4096) (chunkList (spacingOf density) l)) where
+  abbrev file : List ℕ
+  file = headBytes density time language (length content) l ++ content
+
+  -- the numbers of chunks and levels, and the last listing chunk
+  abbrev n : ℕ
+  n = chunkCount l
+
+  abbrev p : ℕ
+  p = depthOf l
+
+  abbrev e : ℕ
+  e = length (l .leaves) - 1
+
+  -- ---- what the headers hold
+
+  long : length file ≡ headLength n + length content
+  long = length-book density time language l content whole
+
+  few : (n ≤ 4096) × (p ≤ 5)
+  unfolding smallEnough
+  few = let t = and-both _ _ small in (leb-true _ _ (t .0), leb-true _ _ (t .1))
+
+  head : FileRead time language n (headerIn file)
+  head = rw (file-part density time language l content) (file-read time language n t g (omega (arith, few)))
+
+  section : le 8 (sectionIn file) 0x08 ≡ headLength n + length content
+  section = rw (head .section, section-part density time language l content) (section-read (headLength n + length content) (omega (arith, few)))
+
+  directory : DirectoryRead density p (rootOf p n) e n (directoryIn file)
+  directory =
+      rw (head .directory, directory-part density time language l content)
+      (directory-read language density p (rootOf p n) e n (omega arith) (omega (arith, few)) (root-small p n (few .0)) (omega (arith, few)) (omega (arith, few)))
+
+  -- ---- the checks
+
+  flat : p ≡ 1 → n ≡ 1
+  flat q = omega (arith, one (omega arith), flat-none (l .levels) (omega arith))
+
+  tall : ¬ (p ≡ 1) → 1 < n
+  tall q = omega (arith, more (omega arith))
+
+  rules : Rules file
+  unfolding longEnough lengthRight
+  rules =
+      record {
+        long = le-leb 96 (length file) (omega (arith, long));
+        tagged = head .tagged;
+        version = version-pass time language n (headerIn file) head;
+        sections = sections-pass time language n (headerIn file) head (length file) (omega (arith, long));
+        size = eq-eqb _ _ (section ∙ sym long);
+        directory = directory .tagged;
+        numbers =
+            rw (head .directory-length)
+            (directory-pass density p e n (directoryIn file) directory dense (omega arith) (few .1) (few .0) (omega arith) flat tall);
+      }
+
+  pub head-read : headOf file ≡ Good (recordFor density time language l)
+  head-read = head-good file rules ∙ ap Good (record-is density time language l (headerIn file) (directoryIn file) head directory)
+
+  -- ---- the chunks
+
+  chunk-is : (c : ℕ) → c < n → chunkBytes file (recordFor density time language l) c ≡ getD (chunkList (spacingOf density) l) c []
+  unfolding chunkBytes recordFor
+  chunk-is c h =
+      part-inside file (204 + 4096 * c) 4096 (omega (arith, long)) ∙ book-chunk density time language l content whole c h
+
+  pub leaf-read : (c : ℕ) → c < length (l .leaves)
+      → chunkBytes file (recordFor density time language l) c
+      ≡ newChunk true (spacingOf density) (prevOf c) (nextOf (length (l .leaves)) c) (getD (l .leaves) c [])
+  leaf-read c h = chunk-is c (omega arith) ∙ list-leaf (spacingOf density) l c h
+
+  pub node-read : (i : ℕ) → i < length (flatten (l .levels))
+      → chunkBytes file (recordFor density time language l) (length (l .leaves) + i)
+      ≡ newChunk false (spacingOf density) (prevOf (length (l .leaves) + i)) (nextOf (length (l .leaves)) (length (l .leaves) + i)) (getD (flatten (l .levels)) i [])
+  node-read i h = chunk-is (length (l .leaves) + i) (omega arith) ∙ list-node (spacingOf density) l i h

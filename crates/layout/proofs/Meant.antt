@@ -1,0 +1,163 @@
+-- A new book by its record: every chunk means the entries that its layout gives it.
+-- Assumes nothing.
+use mathlib.Core.Path.{_≡_, refl, sym, ap, ap₂, subst, _∙_}
+use mathlib.Core.Bool.{Bool, true, false}
+use mathlib.Core.List.{List, [], _∷_, flatten}
+use Prim.Native.Nat.{ℕ, zero, suc, _+_, _-_, _^_, _≤_, _<_}
+use native.Mathlib.Omega.{arith}
+use native.Mathlib.Decide.{ℕ-discrete}
+use lib.ListN.{length, getD}
+use lib.Dec.{leb, ltb}
+use borrow.Author.Tests.{leb-true, ltb-true, eq-eqb, ne-eqb}
+use Rattle.fields.proofs.Tests.{and-both}
+use Rattle.entries.specs.declared.Limits.{Limits}
+use Rattle.chunk.specs.Chunk.{parsed, spacingOf}
+use Rattle.header.specs.Header.{headOf}
+use Rattle.header.specs.declared.Record.{Record}
+use Rattle.header.specs.declared.Head.the-variants.{Good}
+use Rattle.book.specs.Book.{limitsOf, directoryOf}
+use Rattle.source.specs.Stored.{Stored}
+use Rattle.source.specs.Input.{given}
+use Rattle.source.proofs.All.{All, none, more, all-weaken, all-parts}
+use Rattle.source.proofs.Kept.{Kept, given-kept}
+use Rattle.pack.specs.Groups.{fits}
+use Rattle.pack.specs.Levels.{entrySize}
+use Rattle.pack.proofs.Groups.{groups-flat}
+use Rattle.compose.proofs.Placed.{Allowed}
+use Rattle.compose.proofs.Reading.{parsed-new}
+use Rattle.layout.specs.Headers.{headLength}
+use Rattle.layout.specs.Layout.{takes, Layout, layoutOf, layoutFor, chunkCount, depthOf, smallEnough, prevOf, nextOf, chunkList}
+use Rattle.layout.specs.RoundTrip.{recordFor, newBook}
+use Rattle.layout.proofs.Meaning.{Means}
+use Rattle.layout.proofs.Rising.{groups-rise}
+use Rattle.layout.proofs.Sound.{Child, Sound, Ordered, ordered-level, index-sound}
+use Rattle.layout.proofs.Taken.{Takes, takes-told, some-leaves}
+use Rattle.layout.proofs.Filled.{fit-room, shorts, leaves-fit, nodes-fit, list-whole}
+use Rattle.layout.proofs.Indexed.{indexed}
+use Rattle.layout.proofs.Places.{length-book}
+use Rattle.layout.proofs.Framing.{head-read, leaf-read, node-read}
+
+-- element i of a list all of whose elements are alike
+pub all-at : {A : Type 0} {P : A → Type 0} (d : A) (l : List A) (i : ℕ) → All P l → i < length l → P (getD l i d)
+all-at d [] i none h = absurd (omega arith)
+all-at d (a ∷ l) zero (more p ps) h = p
+all-at d (a ∷ l) (suc i) (more p ps) h = all-at d l i ps (omega arith)
+
+-- ---- the numbers of the chunks before and behind have room in their fields
+
+prev-small : (c : ℕ) → c ≤ 4096 → prevOf c < 2 ^ 32
+unfolding prevOf
+prev-small c h =
+    elim (ℕ-discrete c 0) [
+      | yes e ↦ rw (eq-eqb c 0 e) (omega arith)
+      | no e ↦ rw (ne-eqb c 0 e) (omega arith)
+    ]
+
+next-small : (m c : ℕ) → m ≤ 4096 → nextOf m c < 2 ^ 32
+unfolding nextOf
+next-small m c h = go (ltb (c + 1) m) refl
+  where
+    go : (t : Bool) → ltb (c + 1) m ≡ t → nextOf m c < 2 ^ 32
+    go true e = let b = ltb-true (c + 1) m e in rw e (omega arith)
+    go false e = rw e (omega arith)
+
+-- ---- entries that a chunk takes
+
+kept-allowed : (limits : Limits) (e : Stored) → Kept (limits .content) e → Allowed limits true e
+kept-allowed limits e k =
+    record { some = k .some; short = k .short; numbers = (k .section, k .offset, k .size, k .within, k .childless) }
+
+child-allowed : (limits : Limits) → limits .count ≤ 4096 → (e : Stored) → Child (limits .count) e → Allowed limits false e
+child-allowed limits h e k =
+    record { some = k .some; short = k .short; numbers = (k .below, omega (arith, k .below), k .section, k .offset, k .size) }
+
+module _ (density time language : ℕ) (s content : List ℕ) (t : time < 2 ^ 32) (g : language < 2 ^ 32)
+    (taken : takes density (length content) s ≡ true) (small : smallEnough (layoutFor density (length content) s) ≡ true) where
+  abbrev n : ℕ
+  n = spacingOf density
+
+  abbrev es : List Stored
+  es = given (length content) s
+
+  abbrev l : Layout
+  l = layoutFor density (length content) s
+
+  abbrev m : ℕ
+  m = length (l .leaves)
+
+  abbrev file : List ℕ
+  file = newBook density time language s content
+
+  abbrev book : Record
+  book = recordFor density time language l
+
+  abbrev told : Takes density (length content) s
+  told = takes-told density (length content) s taken
+
+  -- ---- the layout
+
+  ordered : Ordered (l .leaves)
+  unfolding layoutOf
+  ordered = ordered-level n true es (told .order) (all-weaken (λ (e : Stored) (k : Kept (length content) e). k .some) (given-kept (length content) s)) (shorts (length content) s)
+
+  leaves-kept : All (All (Kept (length content))) (l .leaves)
+  unfolding layoutOf
+  leaves-kept = all-parts (l .leaves) (subst (All (Kept (length content))) (sym (groups-flat (entrySize true) (fits true n) es)) (given-kept (length content) s))
+
+  nodes-sound : All (Sound (chunkCount l)) (flatten (l .levels))
+  unfolding layoutOf
+  nodes-sound = index-sound n (chunkCount l) 5 0 (l .leaves) ordered (omega arith)
+
+  few : chunkCount l ≤ 4096
+  unfolding smallEnough
+  few = leb-true (chunkCount l) 4096 (and-both (leb (chunkCount l) 4096) (leb (depthOf l) 5) small .0)
+
+  -- ---- the parts of the file
+
+  abbrev whole : All (λ (c : List ℕ). length c ≡ 4096) (chunkList n l)
+  whole = list-whole n (length content) s
+
+  abbrev some : 0 < m
+  some = some-leaves n (length content) s (told .some)
+
+  one : length (l .levels) ≡ 0 → m ≡ 1
+  unfolding layoutOf
+  one z = indexed n 4 0 (l .leaves) .one z some
+
+  index-some : 0 < length (l .levels) → 0 < length (flatten (l .levels))
+  unfolding layoutOf
+  index-some h = indexed n 4 0 (l .leaves) .more h
+
+  pub head-good : headOf file ≡ Good book
+  head-good = head-read density time language l content (told .dense) t g (told .small) small some one index-some whole
+
+  abbrev limits : Limits
+  limits = record { density = density; count = chunkCount l; content = length content }
+
+  limits-are : limitsOf file book ≡ limits
+  unfolding limitsOf recordFor
+  limits-are =
+      let e : length file - headLength (chunkCount l) ≡ length content = omega (arith, length-book density time language l content whole) in
+      ap (λ (c : ℕ). let r : Limits = record { density = density; count = chunkCount l; content = c } in r) e
+
+  -- ---- the meaning of each chunk
+
+  pub means : Means (directoryOf file book) l
+  unfolding directoryOf
+  means =
+      record {
+        leaf = λ c h.
+            let x = getD (l .leaves) c [] in
+            let f = all-at [] (l .leaves) c (leaves-fit n (length content) s) h in
+            ap₂ parsed limits-are (leaf-read density time language l content (told .dense) t g (told .small) small some one index-some whole c h)
+            ∙ parsed-new limits true (prevOf c) (nextOf m c) x (prev-small c (omega (arith, few))) (next-small m c (omega (arith, few))) (f .some) (fit-room true n x f)
+            (all-at [] (l .leaves) c (groups-rise [] (l .leaves) (ordered .named) (ordered .order)) h)
+            (all-weaken (kept-allowed limits) (all-at [] (l .leaves) c leaves-kept h));
+        node = λ i h.
+            let x = getD (flatten (l .levels)) i [] in
+            let f = all-at [] (flatten (l .levels)) i (nodes-fit n (length content) s) h in
+            let o = all-at [] (flatten (l .levels)) i nodes-sound h in
+            ap₂ parsed limits-are (node-read density time language l content (told .dense) t g (told .small) small some one index-some whole i h)
+            ∙ parsed-new limits false (prevOf (m + i)) (nextOf m (m + i)) x (prev-small (m + i) (omega (arith, few))) (next-small m (m + i) (omega (arith, few))) (f .some) (fit-room false n x f)
+            (o .order) (all-weaken (child-allowed limits few) (o .entries));
+      }

@@ -1,0 +1,45 @@
+-- Headers that hold the numbers of a new book pass the checks of a head.
+-- Assumes nothing.
+use mathlib.Core.Path.{_≡_, refl}
+use mathlib.Core.Bool.{true, cond, not, _&&_, _||_}
+use mathlib.Core.List.{List}
+use Prim.Native.Nat.{ℕ, _+_, _-_, _*_, _≤_, _<_}
+use native.Mathlib.Omega.{arith}
+use native.Mathlib.Decide.{ℕ-discrete}
+use lib.Dec.{ltb, eqb}
+use borrow.Author.Tests.{le-leb, lt-ltb, eq-eqb, ne-eqb}
+use Rattle.header.specs.Header.{none, versionRight, lengthsRight, placesRight, contentRight, sectionsRight, boundsRight, endsRight, rootRight, directoryRight}
+use Rattle.layout.specs.Headers.{headLength}
+use Rattle.layout.specs.Layout.{rootOf}
+use Rattle.layout.proofs.Fields.{FileRead, DirectoryRead}
+
+module _ (t g n : ℕ) (h : List ℕ) (f : FileRead t g n h) where
+  pub version-pass : versionRight h ≡ true
+  unfolding versionRight
+  version-pass = simp (f .version, f .ends)
+
+  pub sections-pass : (size : ℕ) → headLength n ≤ size → sectionsRight h size ≡ true
+  unfolding sectionsRight lengthsRight placesRight contentRight
+  sections-pass size l =
+      let m : ℕ = 84 + 4096 * n in
+      simp
+      (f .version, f .ends, f .section, f .section-length, f .directory, f .directory-length, f .content, le-leb 84 m (omega arith), le-leb 120 size (omega arith), le-leb (120 + m) size (omega arith), le-leb 120 (headLength n) (omega arith), le-leb (120 + m) (headLength n) (omega arith), le-leb (headLength n) size l)
+
+-- ---- the directory's numbers
+
+root-pass : (p n : ℕ) → (p ≡ 1 → n ≡ 1) → (¬ (p ≡ 1) → 1 < n)
+    → cond (eqb p 1) (eqb n 1 && (eqb (rootOf p n) none || eqb (rootOf p n) 0)) (not (eqb n 1) && ltb (rootOf p n) n) ≡ true
+unfolding rootOf
+root-pass p n one more =
+    elim (ℕ-discrete p 1) [
+      | yes h ↦ rw (eq-eqb p 1 h, eq-eqb n 1 (one h))
+      | no h ↦ let l : 1 < n = more h in rw (ne-eqb p 1 h, ne-eqb n 1 (λ e. omega arith), lt-ltb (n - 1) n (omega arith))
+    ]
+
+pub directory-pass : (y p e n : ℕ) (d : List ℕ) → DirectoryRead y p (rootOf p n) e n d → y ≤ 7 → 1 ≤ p → p ≤ 5 → n ≤ 4096 → e < n
+    → (p ≡ 1 → n ≡ 1) → (¬ (p ≡ 1) → 1 < n) → directoryRight d (84 + 4096 * n) ≡ true
+unfolding directoryRight boundsRight endsRight rootRight
+directory-pass y p e n d f a b c i j one more =
+    simp
+    (f .size, f .density, f .depth, f .root, f .first, f .last, f .count, le-leb y 7 a, le-leb 1 p b, le-leb p 5 c, le-leb 1 n (omega arith), le-leb n 4096 i, eq-eqb (84 + 4096 * n) (84 + 4096 * n) refl, lt-ltb e n j)
+    (root-pass p n one more)

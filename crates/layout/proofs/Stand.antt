@@ -1,0 +1,87 @@
+-- Chunks that stand one behind another in a directory, each for a list of entries, and the first and the last name of a chunk.
+-- Assumes nothing.
+use mathlib.Core.Path.{_≡_, refl, subst}
+use mathlib.Core.Bool.{Bool, true, false}
+use mathlib.Core.List.{List, [], _∷_, _++_}
+use Prim.Native.Nat.{ℕ, suc, _+_, _<_}
+use native.Mathlib.Omega.{arith}
+use lib.ListN.{length, getD}
+use Rattle.fields.proofs.Tests.{and-both}
+use Rattle.encint.specs.Encint.{encoded}
+use Rattle.names.specs.Names.{below}
+use Rattle.chunk.specs.Chunk.{Entry, Parsed}
+use Rattle.seek.specs.Seek.{Sought, absent, found, nth, final}
+use Rattle.tree.specs.Shape.{nameIn}
+use Rattle.source.specs.Stored.{Stored, rises}
+use Rattle.pack.specs.Levels.{entrySize, firstName}
+use Rattle.compose.proofs.Placed.{placedFrom, newParsed}
+use Rattle.layout.specs.Layout.{prevOf, nextOf}
+
+-- what the entries of chunk c mean: in one of m listing chunks, and in an index chunk
+abbrev pub asLeaf : ℕ → ℕ → List Stored → Parsed
+asLeaf m c g = newParsed true (prevOf c) (nextOf m c) g
+
+abbrev pub asNode : ℕ → List Stored → Parsed
+asNode c g = newParsed false 0 0 g
+
+module _ (D : ℕ → Parsed) (f : ℕ → List Stored → Parsed) where
+  -- the chunks from number c on are these, one behind another
+  abbrev pub Stand : ℕ → List (List Stored) → Type 0
+  Stand c [] = Unit {0}
+  Stand c (g ∷ gs) = (D c ≡ f c g) × Stand (c + 1) gs
+
+  pub stand : (c : ℕ) (gs : List (List Stored)) → ((i : ℕ) → i < length gs → D (c + i) ≡ f (c + i) (getD gs i [])) → Stand c gs
+  stand c [] h = tt
+  stand c (g ∷ gs) h = (
+    subst (λ (x : ℕ). D x ≡ f x g) (omega arith) (h 0 (omega arith)),
+    stand (c + 1) gs (λ i l. subst (λ (x : ℕ). D x ≡ f x (getD gs i [])) (omega arith) (h (suc i) (omega arith))),
+  )
+
+  pub stand-left : (c : ℕ) (a b : List (List Stored)) → Stand c (a ++ b) → Stand c a
+  stand-left c [] b s = tt
+  stand-left c (g ∷ a) b s = (s .0, stand-left (c + 1) a b (s .1))
+
+  pub stand-right : (c : ℕ) (a b : List (List Stored)) → Stand c (a ++ b) → Stand (c + length a) b
+  stand-right c [] b s = subst (λ (x : ℕ). Stand x b) (omega arith) s
+  stand-right c (g ∷ a) b s = subst (λ (x : ℕ). Stand x b) (omega arith) (stand-right (c + 1) a b (s .1))
+
+-- ---- names
+
+-- an entry at a place of its chunk
+abbrev placed : ℕ → Stored → Entry
+placed at e =
+    record {
+      at = at;
+      start = at + length (encoded (length (e .name)));
+      name = e .name;
+      section = e .section;
+      offset = e .offset;
+      size = e .size;
+      child = e .child;
+    }
+
+module _ (k : Bool) where
+  pub placed-first : (at : ℕ) (g : List Stored) → nameIn (nth 0 (placedFrom k at g)) ≡ firstName g
+  unfolding placedFrom nth firstName
+  placed-first at [] = refl
+  placed-first at (e ∷ g) = refl
+
+  -- what comes behind a chunk rises from its last name
+  behind-last : (at : ℕ) (s : Sought) (g rest : List Stored) → rises (nameIn s) (g ++ rest) ≡ true → rises (nameIn (final s (placedFrom k at g))) rest ≡ true
+  unfolding placedFrom final rises
+  behind-last at s [] rest h = h
+  behind-last at s (e ∷ g) rest h =
+      behind-last (at + entrySize k e) (found (placed at e)) g rest (and-both (below (nameIn s) (e .name)) (rises (e .name) (g ++ rest)) h .1)
+
+  pub placed-last : (at : ℕ) (last : List ℕ) (g rest : List Stored) → 0 < length g → rises last (g ++ rest) ≡ true
+      → rises (nameIn (final absent (placedFrom k at g))) rest ≡ true
+  unfolding placedFrom final rises
+  placed-last at last [] rest p h = absurd (omega arith)
+  placed-last at last (e ∷ g) rest p h =
+      behind-last (at + entrySize k e) (found (placed at e)) g rest (and-both (below last (e .name)) (rises (e .name) (g ++ rest)) h .1)
+
+-- entries that rise have the first name above the one before
+pub rises-first : (last : List ℕ) (g rest : List Stored) → 0 < length g → rises last (g ++ rest) ≡ true → below last (firstName g) ≡ true
+unfolding rises firstName
+rises-first last [] rest p h = absurd (omega arith)
+rises-first last (e ∷ g) rest p h = and-both _ _ h .0

@@ -1,0 +1,29 @@
+-- `layout::following` meets its contract. Assumes nothing.
+use Prim.Native.Nat.{_+_}
+use native.Mathlib.Omega.{arith}
+use borrow.Author.Needs.{needs}
+use borrow.Author.Tests.{lt-ltb, le-ltb}
+use Rattle.layout.specs.Layout.{nextOf}
+use Rattle.layout.proofs.following.Statement.{statement}
+use Rattle.layout.proofs.following.Tie as tie
+
+returns : tie.Need-returns
+unfolding nextOf
+returns c = rw (le-ltb (c .before .args .c + 1) (c .before .args .m) (omega arith))
+
+add-if2 : tie.Need-add-if2
+add-if2 c = search needs
+
+add-result : tie.Need-add-result
+add-result c = search needs
+
+returns-2 : tie.Need-returns-2
+unfolding nextOf
+returns-2 c = rw (lt-ltb (c .before .before .args .c + 1) (c .before .before .args .m) (c .if2 .taken))
+
+returns-3 : tie.Need-returns-3
+unfolding nextOf
+returns-3 c = rw (le-ltb (c .before .before .args .c + 1) (c .before .before .args .m) (c .if2 .left))
+
+pub following-spec : {M : Type 1} → statement M
+following-spec = tie.close (tie.spec returns add-if2 add-result returns-2 returns-3)

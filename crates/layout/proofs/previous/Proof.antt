@@ -1,0 +1,20 @@
+-- `layout::previous` meets its contract. Assumes nothing.
+use borrow.Author.Needs.{needs}
+use borrow.Author.Tests.{eq-eqb, ne-eqb}
+use Rattle.layout.specs.Layout.{prevOf}
+use Rattle.layout.proofs.previous.Statement.{statement}
+use Rattle.layout.proofs.previous.Tie as tie
+
+returns : tie.Need-returns
+unfolding prevOf
+returns c = rw (eq-eqb (c .before .args .c) 0 (c .if1 .taken))
+
+sub-result : tie.Need-sub-result
+sub-result c = search needs
+
+returns-2 : tie.Need-returns-2
+unfolding prevOf
+returns-2 c = rw (ne-eqb (c .before .args .c) 0 (c .if1 .left))
+
+pub previous-spec : {M : Type 1} → statement M
+previous-spec = tie.close (tie.spec returns sub-result returns-2)

@@ -1,0 +1,25 @@
+-- `layout::root_chunk` meets its contract. Assumes nothing.
+use native.Mathlib.Omega.{arith}
+use borrow.Author.Needs.{needs}
+use borrow.Author.Tests.{eq-eqb, ne-eqb}
+use Rattle.layout.specs.Layout.{rootOf}
+use Rattle.layout.proofs.root_chunk.Statement.{statement}
+use Rattle.layout.proofs.root_chunk.Tie as tie
+
+returns : tie.Need-returns
+unfolding rootOf
+returns c = rw (eq-eqb (c .before .args .depth) 1 (c .if1 .taken))
+
+returns-2 : tie.Need-returns-2
+unfolding rootOf
+returns-2 c = rw (ne-eqb (c .before .before .args .depth) 1 (c .before .if1 .left)) (omega arith)
+
+sub-result : tie.Need-sub-result
+sub-result c = search needs
+
+returns-3 : tie.Need-returns-3
+unfolding rootOf
+returns-3 c = rw (ne-eqb (c .before .before .args .depth) 1 (c .before .if1 .left))
+
+pub root-chunk-spec : {M : Type 1} → statement M
+root-chunk-spec = tie.close (tie.spec returns returns-2 sub-result returns-3)

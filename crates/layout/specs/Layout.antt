@@ -1,0 +1,77 @@
+-- The layout of a new book: what the writer takes, which entries each chunk holds, and the bytes of the head (FORMAT, Writer).
+-- Assumes nothing.
+use Prim.Native.Nat.{ℕ, _+_, _-_, _^_}
+use mathlib.Core.Bool.{Bool, true, false, cond, _&&_}
+use mathlib.Core.List.{List, [], _∷_, _++_, flatten}
+use lib.ListN.{length}
+use lib.Dec.{ltb, leb, eqb}
+use Rattle.chunk.specs.Chunk.{spacingOf}
+use Rattle.header.specs.Header.{none}
+use Rattle.source.specs.Stored.{Stored}
+use Rattle.source.specs.Input.{given, inputRight}
+use Rattle.pack.specs.Levels.{level, levelsAbove}
+use Rattle.compose.specs.NewChunk.{newChunk}
+use Rattle.layout.specs.Headers.{headLength, fileHeader, sectionZero, directoryHeader}
+
+-- ---- what it takes (W2): refusal 18
+
+unfoldable pub takes : ℕ → ℕ → List ℕ → Bool
+takes density content s = leb density 7 && (ltb content (2 ^ 62) && inputRight content s)
+
+-- ---- which entries each chunk holds
+
+-- the listing chunks, and the index levels, the lowest first; a chunk is the list of its entries
+pub record Layout : Type 0 where
+  pub leaves : List (List Stored)
+  pub levels : List (List (List Stored))
+
+-- W10, W11. Five index levels are looked for; where there are so many, the depth is above 5
+unfoldable pub layoutOf : ℕ → List Stored → Layout
+layoutOf n es = record { leaves = level n true es; levels = levelsAbove n 5 0 (level n true es) }
+
+abbrev pub chunkCount : Layout → ℕ
+chunkCount l = length (l .leaves) + length (flatten (l .levels))
+
+abbrev pub depthOf : Layout → ℕ
+depthOf l = 1 + length (l .levels)
+
+-- refusal 19 where it does not hold
+unfoldable pub smallEnough : Layout → Bool
+smallEnough l = leb (chunkCount l) 4096 && leb (depthOf l) 5
+
+-- ---- the chunks
+
+-- the previous and the next of m listing chunks (W9)
+unfoldable pub prevOf : ℕ → ℕ
+prevOf c = cond (eqb c 0) none (c - 1)
+
+unfoldable pub nextOf : ℕ → ℕ → ℕ
+nextOf m c = cond (ltb (c + 1) m) (c + 1) none
+
+-- chunks of a kind, numbered from c on, of which the first m are the listing chunks
+unfoldable pub chunksOf : Bool → ℕ → ℕ → ℕ → List (List Stored) → List (List ℕ)
+chunksOf k n m c [] = []
+chunksOf k n m c (g ∷ gs) = newChunk k n (prevOf c) (nextOf m c) g ∷ chunksOf k n m (c + 1) gs
+
+-- all chunks, in the order of their numbers
+unfoldable pub chunkList : ℕ → Layout → List (List ℕ)
+chunkList n l =
+    chunksOf true n (length (l .leaves)) 0 (l .leaves) ++ chunksOf false n (length (l .leaves)) (length (l .leaves)) (flatten (l .levels))
+
+-- ---- the head
+
+-- the root is the last chunk; at depth 1 there is none (W11, W12)
+unfoldable pub rootOf : ℕ → ℕ → ℕ
+rootOf depth count = cond (eqb depth 1) none (count - 1)
+
+-- headers and chunks; content is the content's length
+unfoldable pub headBytes : (density time language content : ℕ) → Layout → List ℕ
+headBytes density time language content l =
+    fileHeader time language (chunkCount l)
+    ++ (sectionZero (headLength (chunkCount l) + content)
+    ++ (directoryHeader language density (depthOf l) (rootOf (depthOf l) (chunkCount l)) (length (l .leaves) - 1) (chunkCount l)
+    ++ flatten (chunkList (spacingOf density) l)))
+
+-- the layout that the inputs fix
+abbrev pub layoutFor : ℕ → ℕ → List ℕ → Layout
+layoutFor density content s = layoutOf (spacingOf density) (given content s)

@@ -1,0 +1,3 @@
+pub mod Headers
+pub mod Layout
+pub mod RoundTrip

@@ -1,0 +1,49 @@
+-- What the head of a new book is worth: with its content behind it, it is a book, and that book lists the entries that the writer was given.
+-- Assumes nothing.
+use Prim.Native.Nat.{ℕ, _-_}
+use mathlib.Core.Path.{_≡_}
+use mathlib.Core.List.{List, _++_, map}
+use lib.ListN.{length}
+use Rattle.fields.specs.Part.{part}
+use Rattle.header.specs.declared.Record.{Record}
+use Rattle.book.specs.declared.Report.{Report}
+use Rattle.directory.specs.Opened.{opened}
+use Rattle.directory.specs.declared.Opened.the-variants.{Book}
+use Rattle.listing.specs.Whole.{wholeListing}
+use Rattle.source.specs.Stored.{Stored}
+use Rattle.source.specs.Input.{given}
+use Rattle.layout.specs.Headers.{headLength}
+use Rattle.layout.specs.Layout.{Layout, layoutFor, chunkCount, depthOf, rootOf, headBytes}
+
+-- the record that the inputs fix (FORMAT K1, W3 to W12)
+unfoldable pub recordFor : (density time language : ℕ) → Layout → Record
+recordFor density time language l =
+    record {
+      version = 3;
+      time = time;
+      language = language;
+      start = 0x78;
+      count = chunkCount l;
+      density = density;
+      depth = depthOf l;
+      root = rootOf (depthOf l) (chunkCount l);
+      first = 0;
+      last = length (l .leaves) - 1;
+      content = headLength (chunkCount l);
+    }
+
+-- the entry that a report of the file s tells of: its name's bytes, and its numbers
+abbrev pub toldOf : List ℕ → Report → Stored
+toldOf s r = record { name = part s (r .place) (r .length); section = r .section; offset = r .offset; size = r .size; child = 0 }
+
+-- the book of the entries s and a content
+abbrev pub newBook : (density time language : ℕ) (s content : List ℕ) → List ℕ
+newBook density time language s content = headBytes density time language (length content) (layoutFor density (length content) s) ++ content
+
+-- ---- the round trip of the entries s, with content of a length, to a file
+
+pub record RoundTrip (density time language content : ℕ) (s file : List ℕ) : Type 0 where
+  -- the file is a book, with the record that the inputs fix;
+  pub opens : opened file ≡ Book (recordFor density time language (layoutFor density content s))
+  -- its listing is the entries, name by name and number by number
+  pub lists : map (toldOf file) (wholeListing file (recordFor density time language (layoutFor density content s))) ≡ given content s

@@ -1,0 +1,23 @@
+-- What one chunk takes of the entries from a cursor on.
+-- Assumes nothing.
+use Prim.Native.Nat.{ℕ, _+_}
+use mathlib.Core.Bool.{Bool, true, false, cond}
+use mathlib.Core.List.{List, [], _∷_}
+use lib.ListN.{length}
+use Rattle.encint.specs.Encint.{encoded}
+use Rattle.entries.specs.declared.Place.{Place}
+use Rattle.pack.specs.Groups.{fits}
+use Rattle.pack.specs.declared.Extent.{Extent}
+
+-- the bytes that an entry takes where it is written from its numbers
+unfoldable pub rowSize : Bool → Place → ℕ
+rowSize true e =
+    length (encoded (e .len)) + e .len + length (encoded (e .section)) + length (encoded (e .offset)) + length (encoded (e .size))
+rowSize false e = length (encoded (e .len)) + e .len + length (encoded (e .child))
+
+-- a chunk has c entries of b bytes, and the cursor is at a place: the whole that it takes
+unfoldable pub extentFrom : Bool → ℕ → ℕ → ℕ → ℕ → List Place → Extent
+extentFrom k n c b at [] = record { count = c; bytes = b; at = at }
+extentFrom k n c b at (e ∷ es) =
+    let more = extentFrom k n (c + 1) (b + rowSize k e) (e .next) es in
+    cond (fits k n (c + 1) (b + rowSize k e)) more (record { count = c; bytes = b; at = at })

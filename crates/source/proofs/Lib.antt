@@ -1,0 +1,4 @@
+pub mod All
+pub mod Rows
+pub mod Inputs
+pub mod Kept

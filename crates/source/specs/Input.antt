@@ -1,0 +1,24 @@
+-- The entries that the writer is given (FORMAT W1, W2).
+-- Assumes nothing.
+use Prim.Native.Nat.{ℕ}
+use mathlib.Core.Bool.{Bool, _&&_}
+use mathlib.Core.List.{List, [], map}
+use lib.ListN.{length}
+use lib.Dec.{ltb, eqb}
+use Rattle.entries.specs.Entry.{listingAt}
+use Rattle.entries.specs.declared.Place.{Place}
+use Rattle.source.specs.Stored.{Stored, storedOf, rises}
+use Rattle.source.specs.Source.{run, endOf}
+
+-- where they stand: one directly behind another, as far as they are whole and good by E3 to E6
+abbrev pub placesOf : ℕ → List ℕ → List Place
+placesOf content s = run (listingAt content s) (length s) 0
+
+-- the entries
+unfoldable pub given : ℕ → List ℕ → List Stored
+given content s = map (storedOf s) (placesOf content s)
+
+-- one or more; the last ends where the input does; their names rise strictly
+unfoldable pub inputRight : ℕ → List ℕ → Bool
+inputRight content s =
+    ltb 0 (length (placesOf content s)) && (eqb (endOf 0 (placesOf content s)) (length s) && rises [] (given content s))

@@ -1,0 +1,47 @@
+-- Where the entries of a level come from. A level of listing chunks takes them from the input, by place; a level of index chunks has one
+-- for each chunk of the level below, by number, with the first name of that chunk (FORMAT W11, T4).
+-- Assumes nothing.
+use Prim.Native.Nat.{ℕ, zero, suc, _+_}
+use mathlib.Core.Bool.{Bool, true, false, cond}
+use mathlib.Core.List.{List, [], _∷_}
+use lib.ListN.{length, getD}
+use lib.Dec.{ltb}
+use Rattle.entries.specs.Entry.{withNumber, nameAt, listingAt}
+use Rattle.entries.specs.declared.Place.{Place}
+use Rattle.entries.specs.declared.Item.{Item}
+use Rattle.entries.specs.declared.Item.the-variants.{Good}
+use Rattle.chunk.specs.Chunk.{withItem}
+use Rattle.source.specs.declared.Taken.{Taken}
+use Rattle.source.specs.declared.Taken.the-variants.{Entry, End}
+
+-- the entry for chunk c, whose first name has its entry in the input s at place c of `starts`
+unfoldable pub childAt : List ℕ → List ℕ → ℕ → Item
+childAt s starts c =
+    cond (ltb c (length starts))
+    (withNumber (nameAt s (getD starts c 0)) Item.Bad (λ len start.
+    Good (record { at = getD starts c 0; start = start; len = len; section = 0; offset = 0; size = 0; child = c; next = c + 1 })))
+    Item.Bad
+
+-- the entry at a cursor of a listing level (true) or of an index level
+unfoldable pub itemFrom : ℕ → List ℕ → List ℕ → Bool → ℕ → Item
+itemFrom content s starts true at = listingAt content s at
+itemFrom content s starts false at = childAt s starts at
+
+-- what a step hands out of an entry
+abbrev pub takenOf : Bool → Item → Taken
+takenOf k Item.Bad = End
+takenOf k (Good e) = Entry e (record { listing = k; at = e .next })
+
+-- the entries from a cursor on, each directly behind the one before, up to the first place where none stands; f at most
+unfoldable pub run : (ℕ → Item) → ℕ → ℕ → List Place
+run item zero at = []
+run item (suc f) at = withItem (item at) [] (λ e. e ∷ run item f (e .next))
+
+-- where they end
+unfoldable pub endOf : ℕ → List Place → ℕ
+endOf at [] = at
+endOf at (e ∷ es) = endOf (e .next) es
+
+-- all entries from a cursor on: there are no more of them than bytes, or chunks
+unfoldable pub rowsFrom : ℕ → List ℕ → List ℕ → Bool → ℕ → List Place
+rowsFrom content s starts k at = run (itemFrom content s starts k) (length s + length starts) at

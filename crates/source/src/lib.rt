@@ -1,0 +1,110 @@
+// The entries that a level of chunks is made of, one at a time, and the rules on those that the writer is given.
+ghost use mathlib.Core.Path.{_≡_};
+ghost use Prim.Native.Nat.{_+_, _≤_};
+ghost use lib.ListN.{length};
+ghost use Rattle.fields.specs.Part.{part};
+ghost use Rattle.names.specs.Names.{below};
+ghost use Rattle.source.specs.Source.{childAt, itemFrom, takenOf};
+ghost use Rattle.source.specs.Input.{inputRight};
+use encint::Number;
+use entries::Item;
+use entries::Place;
+
+// How far the entries of a level are taken. A listing level takes them from the input: `at` is the place of the next one. An index level
+// has one for each chunk so far: `at` is the number of the next chunk.
+pub struct Cursor {
+    pub listing: bool,
+    pub at: usize,
+}
+
+// An entry, with the cursor moved on behind it; or the end, where no good entry stands.
+pub enum Taken {
+    Entry(Place, Cursor),
+    End,
+}
+
+// The index entry for chunk c. `starts` has, for each chunk so far, where the entry of its first name stands in the input.
+fn child_at(input: &[u8], starts: &[usize], c: usize) -> Item
+    ensures { λ r. ⌜ r ≡ childAt (now (input .entry)) (now (starts .entry)) c ⌝ }
+{
+    if starts.len() <= c {
+        return Item::Bad;
+    }
+    let at = starts[c];
+    let Number::Value(len, start) = entries::name_at(input, at) else {
+        return Item::Bad;
+    };
+    Item::Good(Place {
+        at,
+        start,
+        len: len as usize,
+        section: 0,
+        offset: 0,
+        size: 0,
+        child: c as u64,
+        next: c + 1,
+    })
+}
+
+// The entry at a cursor.
+pub fn step(input: &[u8], starts: &[usize], content: u64, from: Cursor) -> Taken
+    ensures { λ r. ⌜ r ≡ takenOf (from .listing) (itemFrom content (now (input .entry)) (now (starts .entry)) (from .listing) (from .at)) ⌝ }
+{
+    let at = from.at;
+    if from.listing {
+        let Item::Good(e) = entries::listing_at(input, at, content) else {
+            return Taken::End;
+        };
+        return Taken::Entry(
+            e,
+            Cursor {
+                listing: true,
+                at: e.next,
+            },
+        );
+    }
+    let Item::Good(e) = child_at(input, starts, at) else {
+        return Taken::End;
+    };
+    Taken::Entry(
+        e,
+        Cursor {
+            listing: false,
+            at: e.next,
+        },
+    )
+}
+
+// Whether the n bytes at `start` are a name that comes after the one of `len` bytes at `from`.
+fn rises(input: &[u8], from: usize, len: usize, start: usize, n: usize) -> bool
+    requires { ⌜ (from + len ≤ length (now input)) × (start + n ≤ length (now input)) ⌝ }
+    ensures { λ r. ⌜ r ≡ below (part (now (input .entry)) from len) (part (now (input .entry)) start n) ⌝ }
+{
+    names::is_below(&input[from..from + len], &input[start..start + n])
+}
+
+// Whether the input is one good entry or more, one directly behind another to its end, with names that rise.
+pub fn is_good(input: &[u8], content: u64) -> bool
+    ensures { λ r. ⌜ r ≡ inputRight content (now (input .entry)) ⌝ }
+{
+    if input.len() == 0 {
+        return false;
+    }
+    let mut c = Cursor {
+        listing: true,
+        at: 0,
+    };
+    let mut from: usize = 0;
+    let mut len: usize = 0;
+    loop {
+        let Taken::Entry(e, next) = step(input, &[], content, c) else {
+            return c.at == input.len();
+        };
+        if !rises(input, from, len, e.start, e.len) {
+            return false;
+        }
+        from = e.start;
+        len = e.len;
+        c = next;
+    }
+}

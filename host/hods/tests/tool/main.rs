@@ -1,0 +1,10 @@
+//! The tool as it is run: what it prints, what it leaves behind, how it ends.
+
+mod cat;
+mod check;
+mod find;
+mod list;
+mod pipe;
+mod run;
+mod usage;
+mod write;

@@ -1,0 +1,160 @@
+//! A book that opened: its record, its entries, its bytes.
+
+use std::fmt;
+
+use crate::encint;
+use crate::entry::{Entry, Lookup, Trail};
+use crate::listing::{Cursor, Entries, Steps};
+use crate::record::Record;
+use crate::refusal::Refusal;
+use crate::sys;
+
+/// A book whose header, chunks, chain and tree keep every rule of docs/FORMAT.md. It borrows the bytes of the file and copies none of them.
+///
+/// ```
+/// use hodsplinter::{Book, Lookup};
+///
+/// let file = std::fs::read("../../samples/sample.chm")?;
+/// let book = Book::open(&file)?;
+/// for entry in book.entries() {
+///     println!("{:?} {}", entry.name(), entry.length());
+/// }
+/// match book.lookup("/A.HTM")? {
+///     Lookup::Found { entry, trail } => {
+///         assert_eq!(entry.name(), b"/a.htm");
+///         assert_eq!(book.stored(&entry), Some(&b"hello"[..]));
+///         assert_eq!(*trail, [0]);
+///     }
+///     Lookup::Absent { .. } => panic!("the sample book has this page"),
+/// }
+/// # Ok::<(), Box<dyn std::error::Error>>(())
+/// ```
+#[derive(Clone, Copy)]
+pub struct Book<'a> {
+    file: &'a [u8],
+    record: Record,
+}
+
+impl<'a> Book<'a> {
+    /// Opens a book: the lent bytes must be the whole file. The answer is the first rule that fails, in the order of docs/FORMAT.md, RO1 to RO4.
+    ///
+    /// ```
+    /// let mut file = std::fs::read("../../samples/sample.chm")?;
+    /// assert!(hodsplinter::Book::open(&file).is_ok());
+    /// file[204] = b'?'; // the tag of chunk 0
+    /// let refusal = hodsplinter::Book::open(&file).unwrap_err();
+    /// assert_eq!((refusal.number(), refusal.chunk()), (8, Some(0)));
+    /// # Ok::<(), std::io::Error>(())
+    /// ```
+    pub fn open(file: &'a [u8]) -> Result<Book<'a>, Refusal> {
+        let mut numbers = [0; sys::RECORD];
+        sys::open(file, &mut numbers)?;
+        let record = Record::of(&numbers);
+        Ok(Book { file, record })
+    }
+
+    /// The numbers of the book's headers.
+    pub fn record(&self) -> &Record {
+        &self.record
+    }
+
+    /// The bytes that were lent.
+    pub fn file(&self) -> &'a [u8] {
+        self.file
+    }
+
+    /// Looks a name up by the descent from the root. `Absent` is said only where no listing chunk holds the name: that is proved for every book
+    /// that opens and every name of 1 to 1,024 bytes. Names of other lengths get the refusal 15.
+    ///
+    /// ```
+    /// let file = std::fs::read("../../samples/several.chm")?;
+    /// let book = hodsplinter::Book::open(&file)?;
+    /// let answer = book.lookup("/zones.htm")?;
+    /// assert_eq!(answer.entry().unwrap().name(), b"/Zones.htm");
+    /// assert_eq!(*answer.trail(), [6, 1, 3]);
+    /// assert_eq!(book.lookup("/no-such-page")?.entry(), None);
+    /// assert_eq!(book.lookup("").unwrap_err().number(), 15);
+    /// # Ok::<(), Box<dyn std::error::Error>>(())
+    /// ```
+    pub fn lookup(&self, name: impl AsRef<[u8]>) -> Result<Lookup<'a>, Refusal> {
+        let (mut trail, mut answer) = ([0; sys::TRAIL], [0; 6]);
+        let record = self.record.numbers();
+        let found = sys::lookup(self.file, &record, name.as_ref(), &mut trail, &mut answer)?;
+        let trail = Trail::of(trail, answer[0]);
+        if !found {
+            return Ok(Lookup::Absent { trail });
+        }
+        let entry = Entry::of(self.file, &answer[1..]);
+        Ok(Lookup::Found { entry, trail })
+    }
+
+    /// All entries in the order of the listing, read chunk by chunk.
+    ///
+    /// ```
+    /// let file = std::fs::read("../../samples/sample.chm")?;
+    /// let book = hodsplinter::Book::open(&file)?;
+    /// let names: Vec<_> = book.entries().map(|entry| entry.name()).collect();
+    /// assert_eq!(names, [&b"/"[..], &b"/a.htm"[..]]);
+    /// # Ok::<(), Box<dyn std::error::Error>>(())
+    /// ```
+    pub fn entries(&self) -> Entries<'a> {
+        Entries::of(*self)
+    }
+
+    /// The same entries one step of the cursor at a time. A step needs no memory but checks its chunk anew, so that a whole listing is slower
+    /// than by [`Book::entries`].
+    pub fn steps(&self) -> Steps<'a> {
+        Steps::from_start(*self)
+    }
+
+    /// The steps from a cursor on, such as one that [`Steps::cursor`] gave.
+    pub fn steps_from(&self, cursor: Cursor) -> Steps<'a> {
+        Steps::from_cursor(*self, cursor)
+    }
+
+    /// A part of the file itself; an empty part where the range is not inside.
+    ///
+    /// ```
+    /// let file = std::fs::read("../../samples/sample.chm")?;
+    /// let book = hodsplinter::Book::open(&file)?;
+    /// assert_eq!(book.part(0, 4), b"ITSF");
+    /// assert_eq!(book.part(book.record().content_start, 5), b"hello");
+    /// assert_eq!(book.part(u64::MAX, 2), b"");
+    /// # Ok::<(), Box<dyn std::error::Error>>(())
+    /// ```
+    pub fn part(&self, place: u64, length: u64) -> &'a [u8] {
+        match sys::part(self.file, place, length) as usize {
+            0 => &[],
+            size => &self.file[place as usize..][..size],
+        }
+    }
+
+    /// The bytes of an entry of section 0, which stand in the content as they are; `None` for another section, and for an entry of another
+    /// book whose bytes would not be inside this one.
+    pub fn stored(&self, entry: &Entry<'_>) -> Option<&'a [u8]> {
+        let place = self.record.content_start.checked_add(entry.offset())?;
+        let bytes = self.part(place, entry.length());
+        (entry.section() == 0 && bytes.len() as u64 == entry.length()).then_some(bytes)
+    }
+
+    /// An entry as it stands in its chunk, from the name's length to the last number. Each number has one ENCINT, so its size is known.
+    pub fn entry_bytes(&self, entry: &Entry<'_>) -> &'a [u8] {
+        let size = entry.name().len() as u64;
+        let ahead = encint::size(size);
+        let numbers = [entry.section().into(), entry.offset(), entry.length()];
+        let behind: u64 = numbers.into_iter().map(encint::size).sum();
+        match entry.name_place().checked_sub(ahead) {
+            Some(place) => self.part(place, ahead + size + behind),
+            None => &[],
+        }
+    }
+}
+
+impl fmt::Debug for Book<'_> {
+    fn fmt(&self, f: &mut fmt::Formatter<'_>) -> fmt::Result {
+        f.debug_struct("Book")
+            .field("bytes", &self.file.len())
+            .field("record", &self.record)
+            .finish()
+    }
+}

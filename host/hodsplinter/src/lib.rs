@@ -1,0 +1,34 @@
+//! The directory of compiled HTML Help books (CHM, the ITSF format): open and check a book, list its entries, look a name up, hand out stored bytes,
+//! write the head of a new book.
+//!
+//! This is a safe wrapper over the static library of the repository, whose functions are proved, for all inputs, to meet their contracts, to
+//! touch nothing but what they are lent, and to end. The wrapper lends them slices and gives their numbers names; it judges nothing
+//! itself. Limits and refusals are those of docs/FORMAT.md, cited here by their rows.
+//!
+//! - [`Book::open`] checks a whole file and gives a [`Book`], or the first [`Refusal`].
+//! - [`Book::lookup`] finds an entry by its name, [`Book::entries`] lists all of them.
+//! - [`Book::stored`] lends the bytes of an entry of section 0, [`Book::part`] any part of the file.
+//! - [`write_head`] makes the head of a new book from entries.
+//!
+//! `cargo build` links `target/staticlib/libhodsplinter.a`, which `rt staticlib hodsplinter` makes; the environment variable `HODSPLINTER_LIB` can
+//! name another copy.
+
+#![deny(unsafe_code)]
+#![warn(missing_docs)]
+
+mod book;
+mod encint;
+mod entry;
+mod listing;
+mod record;
+mod refusal;
+#[allow(unsafe_code)]
+mod sys;
+mod writer;
+
+pub use book::Book;
+pub use entry::{name_order, Entry, Lookup, Trail};
+pub use listing::{Cursor, Entries, Steps};
+pub use record::Record;
+pub use refusal::Refusal;
+pub use writer::{write_head, NewEntry, Options};
