@@ -1,8 +1,11 @@
 # make list    the sample book through the listing program
 # make test    every proof from nothing, every must-fail edit, every program, then the host-side tests
 # make bench   the figures of docs/BENCHMARKS.md
+# make fuzz    the library against the second implementation, a fresh seed, for FUZZ_SECONDS
 # make hods    the command-line tool, host/target/release/hods, over the library for C
-.PHONY: list test bench hods
+.PHONY: list test bench fuzz hods
+
+FUZZ_SECONDS ?= 600
 
 list:
 	@rt check list >/dev/null
@@ -13,6 +16,9 @@ test:
 
 bench:
 	@tests/bench
+
+fuzz:
+	@tests/host/differ --seed $$(od -An -N8 -tu8 /dev/urandom) --seconds $(FUZZ_SECONDS)
 
 library = target/staticlib/libhodsplinter.a
 

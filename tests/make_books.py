@@ -4,11 +4,15 @@
   make_books.py --check              writes nothing and says what differs
   make_books.py --large FILE         a book of 4,096 chunks with about 30 entries a listing chunk
   make_books.py --large-short FILE   one with short names, about 210 entries a listing chunk
+  make_books.py --measured KIND FILE NAMES
+                                     a book of 100,000 long or 600,000 short names (KIND long, short) in about 3,700 chunks, and names to
+                                     look up in it, a line each: 4,000 that it has, behind +, and 4,000 that it lacks, behind -
 
 The books for measuring are not kept.
 """
 
 import os
+import random
 import sys
 
 from books import Builder, frames, opened, rising, runs
@@ -97,7 +101,37 @@ def write_large(entry, path):
           % (len(data), len(b.parts), len(b.levels[0]), b.depth, len(b.names())))
 
 
+def measured_long(i):
+    day = i // 400
+    return (b'/events/%04d/%02d/%02d/valley-of-the-upper-reaches/station-%04d/protocol-of-the-slide-and-of-all-its-damage-and-its-mending-%08d.html'
+            % (1600 + day // 336, day // 28 % 12 + 1, day % 28 + 1, i % 400, i * 37), 1, i * 70000, 68211)
+
+
+def measured_short(i):
+    return b'/e%03d/%07d.html' % (i // 5000, i), 1, i * 30, 30
+
+
+MEASURED = {'long': (measured_long, 100000), 'short': (measured_short, 600000)}
+
+
+def write_measured(kind, path, names_path, asked=4000):
+    """The model does not judge these books, which would take most of the time: opening is what is measured."""
+    entry, count = MEASURED[kind]
+    b = Builder([entry(i) for i in range(count)])
+    with open(path, 'wb') as f:
+        f.write(b.build())
+    r = random.Random(3700)
+    there = [entry(i)[0] for i in r.sample(range(count), 2 * asked)]
+    # one letter less at its end, a missing name stands right in front of one that is there
+    lines = [b'+' + n for n in there[:asked]] + [b'-' + n[:-1] + bytes([n[-1] - 1]) for n in there[asked:]]
+    with open(names_path, 'wb') as f:
+        f.write(b'\n'.join(lines) + b'\n')
+    print('%d chunks, depth %d, %d entries, names of %d bytes' % (len(b.parts), b.depth, count, len(there[0])))
+
+
 def main():
+    if len(sys.argv) == 5 and sys.argv[1] == '--measured' and sys.argv[2] in MEASURED:
+        return write_measured(*sys.argv[2:])
     if len(sys.argv) == 3 and sys.argv[1] in ('--large', '--large-short'):
         return write_large(long_entry if sys.argv[1] == '--large' else short_entry, sys.argv[2])
     if sys.argv[1:] not in ([], ['--check']):

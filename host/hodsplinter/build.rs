@@ -1,4 +1,4 @@
-//! Links the static library. It stands in the repository's `target/staticlib`, or where the environment variable `HODSPLINTER_LIB` says.
+//! Links the static library, here and for `differ`. It stands in the repository's `target/staticlib`, or where the environment variable `HODSPLINTER_LIB` says.
 
 use std::env;
 use std::path::{Path, PathBuf};
@@ -8,7 +8,6 @@ const FILE: &str = "libhodsplinter.a";
 
 fn main() {
     println!("cargo:rerun-if-env-changed=HODSPLINTER_LIB");
-    println!("cargo:rerun-if-changed=build.rs");
     let library = library();
     println!("cargo:rerun-if-changed={}", library.display());
     let folder = match library.parent() {

@@ -1,0 +1,453 @@
+//! Asks the library and the second implementation the same, and compares the answers and every
+//! lent place.
+
+use crate::coverage::{self, Coverage};
+use crate::lent::Lent;
+use crate::library;
+use second::generate::{Call, Input};
+use second::{
+    chunk_entries, frames, lookup, open, part, start, step, Answer, Cursor, Record, Refusal,
+    Report, Step, NONE,
+};
+
+/// What the library answers for no refusal, and where it has nothing to tell: an absent name, the
+/// end of the listing, too few places.
+const DONE: u64 = 0;
+const NOTHING: u64 = 255;
+
+/// Counts comparisons and what came up in them.
+pub struct Differ {
+    pub coverage: Coverage,
+    pub comparisons: u64,
+}
+
+/// Bytes and, if they open, their record.
+pub struct Asked<'a> {
+    pub file: &'a [u8],
+    pub opened: Option<Record>,
+}
+
+impl<'a> Asked<'a> {
+    pub fn new(file: &'a [u8]) -> Asked<'a> {
+        Asked {
+            file,
+            opened: open(file).ok(),
+        }
+    }
+}
+
+/// A refusal as one number.
+fn code(refusal: Refusal) -> u64 {
+    u64::from(refusal.number) + 256 * u64::from(refusal.place)
+}
+
+fn record_numbers(record: &Record) -> [u64; 11] {
+    [
+        record.version,
+        record.time,
+        record.language,
+        record.start,
+        record.count,
+        record.density,
+        record.depth,
+        record.root,
+        record.first,
+        record.last,
+        record.content,
+    ]
+}
+
+fn report_numbers(report: &Report) -> [u64; 5] {
+    [
+        report.place,
+        report.length,
+        report.section,
+        report.offset,
+        report.size,
+    ]
+}
+
+/// The answers, and what is wrong with the lent places.
+struct Both {
+    second: u64,
+    library: u64,
+    differences: Vec<String>,
+}
+
+impl Both {
+    fn new(second: u64, library: u64) -> Both {
+        Both {
+            second,
+            library,
+            differences: Vec::new(),
+        }
+    }
+
+    fn lent(mut self, difference: Option<String>) -> Both {
+        self.differences.extend(difference);
+        self
+    }
+
+    /// For what is only read.
+    fn kept(self, kept: bool, name: &str) -> Both {
+        self.lent((!kept).then(|| format!("{name}: changed by the library")))
+    }
+
+    fn told(self) -> Result<(), String> {
+        if self.second == self.library && self.differences.is_empty() {
+            return Ok(());
+        }
+        let answers = format!(
+            "second: {}\nlibrary: {}",
+            answer_text(self.second),
+            answer_text(self.library)
+        );
+        Err([vec![answers], self.differences].concat().join("\n"))
+    }
+}
+
+/// An answer, as a refusal with its place if it can be one.
+fn answer_text(answer: u64) -> String {
+    let (number, place) = (answer % 256, answer / 256);
+    if (1..=29).contains(&number) && place <= u64::from(NONE) {
+        format!("{answer} (refusal {number}, place {place:X})")
+    } else {
+        answer.to_string()
+    }
+}
+
+impl Differ {
+    pub fn new() -> Differ {
+        Differ {
+            coverage: Coverage::new(),
+            comparisons: 0,
+        }
+    }
+
+    /// Nothing, or how the answers differ.
+    pub fn compare(&mut self, asked: &Asked, call: &Call) -> Result<(), String> {
+        self.comparisons += 1;
+        let both = match call {
+            Call::Open => self.open(asked.file),
+            Call::Lookup {
+                record,
+                name,
+                places,
+            } => self.lookup(asked, record, name, *places),
+            Call::Start { record } => self.start(record),
+            Call::Step { record, cursor } => self.step(asked, record, *cursor),
+            Call::Page {
+                record,
+                chunk,
+                numbers,
+            } => self.page(asked, record, *chunk, *numbers),
+            Call::Part { place, length } => self.part(asked.file, *place, *length),
+            Call::Write(input) => self.write(input),
+        };
+        both.told()
+    }
+
+    fn open(&mut self, file: &[u8]) -> Both {
+        let mut record = Lent::new("record", 11);
+        let (answer, number) = match open(file) {
+            Ok(opened) => {
+                record.expect(&record_numbers(&opened));
+                (DONE, 0)
+            }
+            Err(refusal) => (code(refusal), refusal.number),
+        };
+        self.coverage.count("open", coverage::number(number));
+        let got = library::open(file, record.lend_array());
+        Both::new(answer, got).lent(record.difference())
+    }
+
+    fn lookup(&mut self, asked: &Asked, record: &Record, name: &[u8], places: usize) -> Both {
+        let mut answer = Lent::new("answer", 6);
+        let mut trail = Lent::new("trail", places);
+        let told = lookup(asked.file, record, name, places);
+        let expected = match &told {
+            Answer::Found {
+                report,
+                trail: descent,
+            } => {
+                trail.expect(descent);
+                let numbers = [&[descent.len() as u64][..], &report_numbers(report)].concat();
+                answer.expect(&numbers);
+                DONE
+            }
+            Answer::Absent { trail: descent } => {
+                trail.expect(descent);
+                answer.expect(&[descent.len() as u64]);
+                NOTHING
+            }
+            Answer::Refused(refusal) => code(*refusal),
+        };
+        self.count_lookup(asked, record, name, places, &told);
+
+        let lent_record = record_numbers(record);
+        let lent_name = name.to_vec();
+        let got = library::lookup(
+            asked.file,
+            &lent_record,
+            &lent_name,
+            trail.lend(),
+            answer.lend_array(),
+        );
+        Both::new(expected, got)
+            .lent(answer.difference())
+            .lent(trail.difference())
+            .kept(lent_record == record_numbers(record), "record")
+            .kept(lent_name == name, "name")
+    }
+
+    fn count_lookup(
+        &mut self,
+        asked: &Asked,
+        record: &Record,
+        name: &[u8],
+        places: usize,
+        told: &Answer,
+    ) {
+        const DESCENTS: [&str; 5] = ["1 chunk", "2 chunks", "3 chunks", "4 chunks", "5 chunks"];
+        let coverage = &mut self.coverage;
+        let answer = match told {
+            Answer::Found { .. } => "found",
+            Answer::Absent { .. } => "absent",
+            Answer::Refused(refusal) => coverage::number(refusal.number),
+        };
+        coverage.count("lookup", answer);
+        let places = match places {
+            0..=7 => coverage::number(places as u8),
+            _ => "more places",
+        };
+        coverage.count("trail", places);
+        match name.len() {
+            0 => coverage.count("asked name", "0 bytes"),
+            1 => coverage.count("asked name", "1 byte"),
+            1024 => coverage.count("asked name", "1,024 bytes"),
+            1025 => coverage.count("asked name", "1,025 bytes"),
+            1026.. => coverage.count("asked name", "longer"),
+            _ => {}
+        }
+        match told {
+            Answer::Found { report, trail } => {
+                coverage.count("descent", DESCENTS[trail.len() - 1]);
+                if part(asked.file, report.place, report.length) != name {
+                    coverage.count("asked name", "found in another case");
+                }
+            }
+            Answer::Absent { trail } if (trail.len() as u64) < record.depth => {
+                coverage.count("descent", "ends in an index chunk");
+            }
+            Answer::Absent { trail } => coverage.count("descent", DESCENTS[trail.len() - 1]),
+            Answer::Refused(_) => {}
+        }
+        if !matches!(answer, "15" | "16") {
+            self.count_made_up(
+                "lookup with a record of no book",
+                asked,
+                record,
+                answer != "17",
+            );
+        }
+    }
+
+    /// Counts an answer to a record that the bytes did not give.
+    fn count_made_up(
+        &mut self,
+        group: &'static str,
+        asked: &Asked,
+        record: &Record,
+        answered: bool,
+    ) {
+        if asked.opened != Some(*record) {
+            let answer = if answered { "answered" } else { "17" };
+            self.coverage.count(group, answer);
+        }
+    }
+
+    fn start(&mut self, record: &Record) -> Both {
+        let mut cursor = Lent::new("cursor", 2);
+        let first = start(record);
+        cursor.expect(&[first.chunk, first.entry]);
+        self.coverage.count("start", "0");
+        let lent_record = record_numbers(record);
+        let got = library::start(&lent_record, cursor.lend_array());
+        Both::new(DONE, got)
+            .lent(cursor.difference())
+            .kept(lent_record == record_numbers(record), "record")
+    }
+
+    fn step(&mut self, asked: &Asked, record: &Record, at: Cursor) -> Both {
+        let mut cursor = Lent::with("cursor", &[at.chunk, at.entry]);
+        let mut entry = Lent::new("entry", 5);
+        let (answer, name) = match step(asked.file, record, at) {
+            Step::Entry(report, moved) => {
+                cursor.expect(&[moved.chunk, moved.entry]);
+                entry.expect(&report_numbers(&report));
+                let onto = match moved.chunk {
+                    chunk if chunk == at.chunk => "the same chunk",
+                    chunk if chunk == u64::from(NONE) => "the end",
+                    _ => "another chunk",
+                };
+                self.coverage.count("step onto", onto);
+                (DONE, "entry")
+            }
+            Step::End(end) => {
+                cursor.expect(&[end.chunk, end.entry]);
+                (NOTHING, "end")
+            }
+            Step::Refused(refusal) => (code(refusal), coverage::number(refusal.number)),
+        };
+        self.coverage.count("step", name);
+        self.count_made_up("step with a record of no book", asked, record, name != "17");
+
+        let lent_record = record_numbers(record);
+        let got = library::step(
+            asked.file,
+            &lent_record,
+            cursor.lend_array(),
+            entry.lend_array(),
+        );
+        Both::new(answer, got)
+            .lent(cursor.difference())
+            .lent(entry.difference())
+            .kept(lent_record == record_numbers(record), "record")
+    }
+
+    fn page(&mut self, asked: &Asked, record: &Record, chunk: u64, places: usize) -> Both {
+        let mut entries = Lent::new("entries", places);
+        let mut next = Lent::new("next", 2);
+        let (answer, name) = match chunk_entries(asked.file, record, chunk) {
+            Ok((reports, following)) => {
+                let needed = 5 * reports.len();
+                self.count_places(needed, places);
+                if needed > places {
+                    (NOTHING, "too few places")
+                } else {
+                    let numbers: Vec<u64> = reports.iter().flat_map(report_numbers).collect();
+                    entries.expect(&numbers);
+                    next.expect(&[reports.len() as u64, following.into()]);
+                    (DONE, "entries")
+                }
+            }
+            Err(refusal) => (code(refusal), coverage::number(refusal.number)),
+        };
+        self.coverage.count("page", name);
+        self.count_made_up("page with a record of no book", asked, record, name != "17");
+
+        let lent_record = record_numbers(record);
+        let got = library::chunk(
+            asked.file,
+            &lent_record,
+            chunk,
+            entries.lend(),
+            next.lend_array(),
+        );
+        Both::new(answer, got)
+            .lent(entries.difference())
+            .lent(next.difference())
+            .kept(lent_record == record_numbers(record), "record")
+    }
+
+    fn count_places(&mut self, needed: usize, places: usize) {
+        const GROUP: &str = "places for a page";
+        if places == 0 {
+            self.coverage.count(GROUP, "none");
+        } else if places + 1 == needed {
+            self.coverage.count(GROUP, "one short");
+        } else if places == needed {
+            self.coverage.count(GROUP, "enough");
+        } else if places == needed + 1 {
+            self.coverage.count(GROUP, "one more");
+        } else if places == 4070 {
+            self.coverage.count(GROUP, "4,070");
+        }
+    }
+
+    fn part(&mut self, file: &[u8], place: u64, length: u64) -> Both {
+        let answer = part(file, place, length).len() as u64;
+        let name = match (answer, length) {
+            (0, 0) => "of no bytes",
+            (0, _) => "outside",
+            _ => "inside",
+        };
+        self.coverage.count("part", name);
+        Both::new(answer, library::part(file, place, length))
+    }
+
+    fn write(&mut self, input: &Input) -> Both {
+        let mut out = Lent::new("out", input.out_len);
+        let mut length = Lent::new("length", 1);
+        let (answer, number) = match input.head() {
+            Ok(head) => {
+                out.expect(&head);
+                length.expect(&[head.len() as u64]);
+                self.count_output(head.len(), input.out_len);
+                (DONE, 0)
+            }
+            Err(refusal) => (code(refusal), refusal.number),
+        };
+        self.coverage.count("write_head", coverage::number(number));
+        if number == 20 {
+            let head = input.head_within(usize::MAX);
+            self.count_output(head.map_or(0, |head| head.len()), input.out_len);
+        }
+
+        let lent_entries = input.entries.clone();
+        let got = library::write_head(
+            &lent_entries,
+            input.density,
+            input.time,
+            input.language,
+            input.content_length,
+            out.lend(),
+            length.lend_array(),
+        );
+        Both::new(answer, got)
+            .lent(out.difference())
+            .lent(length.difference())
+            .kept(lent_entries == input.entries, "entries")
+    }
+
+    fn count_output(&mut self, head: usize, output: usize) {
+        const GROUP: &str = "output";
+        if output == 0 {
+            self.coverage.count(GROUP, "none");
+        } else if output + 1 == head {
+            self.coverage.count(GROUP, "one byte short");
+        } else if output == head {
+            self.coverage.count(GROUP, "as long as the head");
+        } else if output > head {
+            self.coverage.count(GROUP, "longer");
+        }
+    }
+
+    /// Compares what the program wrote for these bytes.
+    pub fn program(&mut self, file: &[u8], written: &str) -> Result<(), String> {
+        self.comparisons += 1;
+        let number = match open(file) {
+            _ if file.len() > 60_000 => 29,
+            Ok(_) => 0,
+            Err(refusal) => refusal.number,
+        };
+        self.coverage.count("list", coverage::number(number));
+        let expected = frames(file);
+        if expected == written {
+            return Ok(());
+        }
+        let lines = |text: &str| text.lines().map(str::to_owned).collect::<Vec<String>>();
+        let (expected, written) = (lines(&expected), lines(written));
+        let pairs = expected.iter().zip(&written);
+        let at = pairs.take_while(|(one, two)| one == two).count();
+        Err(format!(
+            "second: {} lines, line {}: {:?}\nlist: {} lines, line {}: {:?}",
+            expected.len(),
+            at + 1,
+            expected.get(at),
+            written.len(),
+            at + 1,
+            written.get(at)
+        ))
+    }
+}

@@ -1,0 +1,224 @@
+//! What came up in a run, counted, and what has to come up in a complete one.
+
+use second::generate;
+use std::collections::BTreeMap;
+
+/// The names of refusals, and of an answer that is none.
+const NUMBERS: [&str; 30] = [
+    "0", "1", "2", "3", "4", "5", "6", "7", "8", "9", "10", "11", "12", "13", "14", "15", "16",
+    "17", "18", "19", "20", "21", "22", "23", "24", "25", "26", "27", "28", "29",
+];
+
+/// The name of a refusal's number; 0 stands for none.
+pub fn number(number: u8) -> &'static str {
+    NUMBERS[usize::from(number)]
+}
+
+const OPENING: &[&str] = &[
+    "0", "1", "2", "3", "4", "5", "6", "7", "8", "9", "10", "11", "12", "13", "14",
+];
+
+const DAMAGE: &[&str] = &[
+    "1", "2", "3", "4", "5", "6", "7", "8", "9", "10", "11", "12", "13", "14",
+];
+
+const PROGRAM: &[&str] = &[
+    "0", "1", "2", "3", "4", "5", "6", "7", "8", "9", "10", "11", "12", "13", "14", "29",
+];
+
+const ASKING: &[&str] = &["answered", "17"];
+
+const GROUPS: &[(&str, &[&str])] = &[
+    ("open", OPENING),
+    ("lookup", &["found", "absent", "15", "16", "17"]),
+    ("start", &["0"]),
+    ("step", &["entry", "end", "17"]),
+    ("page", &["entries", "too few places", "17"]),
+    ("part", &["inside", "of no bytes", "outside"]),
+    ("write_head", &["0", "18", "19", "20"]),
+    ("list", PROGRAM),
+    ("the earlier of two damages", DAMAGE),
+    (
+        "trail",
+        &["0", "1", "2", "3", "4", "5", "6", "7", "more places"],
+    ),
+    (
+        "asked name",
+        &[
+            "0 bytes",
+            "1 byte",
+            "1,024 bytes",
+            "1,025 bytes",
+            "longer",
+            "found in another case",
+        ],
+    ),
+    (
+        "descent",
+        &[
+            "1 chunk",
+            "2 chunks",
+            "3 chunks",
+            "4 chunks",
+            "5 chunks",
+            "ends in an index chunk",
+        ],
+    ),
+    ("step onto", &["the same chunk", "another chunk", "the end"]),
+    (
+        "places for a page",
+        &["none", "one short", "enough", "one more", "4,070"],
+    ),
+    ("lookup with a record of no book", ASKING),
+    ("step with a record of no book", ASKING),
+    ("page with a record of no book", ASKING),
+    (
+        "output",
+        &["none", "one byte short", "as long as the head", "longer"],
+    ),
+    (
+        "head read back",
+        &["1 chunk", "several chunks", "128 chunks or more"],
+    ),
+    (
+        "book that opens",
+        &[
+            "version 2",
+            "version 3",
+            "density 0",
+            "density 1",
+            "density 2",
+            "density 3",
+            "density 4",
+            "density 5",
+            "density 6",
+            "density 7",
+            "depth 1",
+            "depth 2",
+            "depth 3",
+            "depth 4",
+            "depth 5",
+            "1 chunk",
+            "2 to 9 chunks",
+            "10 to 127 chunks",
+            "128 to 4,095 chunks",
+            "4,096 chunks",
+            "root none at depth 1",
+            "root 0 at depth 1",
+            "section 0 in front of the directory",
+            "section 0 behind the directory",
+            "no gap",
+            "gap behind the header",
+            "gap between section 0 and the directory",
+            "gap in front of the content",
+            "no content",
+            "some content",
+            "listing chunks numbered along the chain",
+            "listing chunks not numbered along the chain",
+        ],
+    ),
+    (
+        "chunk of such a book",
+        &[
+            "listing chunk, full",
+            "listing chunk, slack of zeros",
+            "listing chunk, slack with junk",
+            "index chunk, full",
+            "index chunk, slack of zeros",
+            "index chunk, slack with junk",
+            "no quick word",
+            "1 quick word",
+            "2 quick words or more",
+            "as many entries as the quick words' step",
+            "one entry more than the quick words' step",
+            "300 entries or more",
+        ],
+    ),
+    (
+        "entry of such a book",
+        &[
+            "name of 1 byte",
+            "name of 127 bytes",
+            "name of 128 bytes",
+            "name of 1,024 bytes",
+            "section 65,535",
+            "section 0, ends with the content",
+            "section 0, of no bytes behind the content",
+            "number of nine bytes",
+        ],
+    ),
+];
+
+pub struct Coverage {
+    /// All groups and names, in the order of printing.
+    order: Vec<(&'static str, &'static str)>,
+    counts: BTreeMap<(&'static str, &'static str), u64>,
+}
+
+impl Coverage {
+    pub fn new() -> Coverage {
+        let answers = GROUPS
+            .iter()
+            .flat_map(|(group, names)| names.iter().map(move |name| (*group, *name)));
+        let cases = generate::labels().into_iter().map(|label| ("case", label));
+        let order: Vec<_> = answers.chain(cases).collect();
+        Coverage {
+            counts: order.iter().map(|&key| (key, 0)).collect(),
+            order,
+        }
+    }
+
+    pub fn count(&mut self, group: &'static str, name: &'static str) {
+        match self.counts.get_mut(&(group, name)) {
+            Some(count) => *count += 1,
+            None => panic!("{group}, {name}: not among what has to come up"),
+        }
+    }
+
+    /// What never came up.
+    pub fn missing(&self) -> Vec<String> {
+        let never = |key: &&(&str, &str)| self.counts[*key] == 0;
+        let missing = self.order.iter().filter(never);
+        missing
+            .map(|(group, name)| format!("{group}: {name}"))
+            .collect()
+    }
+
+    pub fn len(&self) -> usize {
+        self.order.len()
+    }
+
+    /// A paragraph for each group, in lines of moderate length.
+    pub fn print(&self) {
+        let mut group = "";
+        let mut line = String::new();
+        for key in &self.order {
+            let item = format!("{} ({})", key.1, self.counts[key]);
+            if key.0 != group {
+                if !line.is_empty() {
+                    println!("{line}");
+                }
+                group = key.0;
+                line = format!("{group}: {item}");
+            } else if line.len() + item.len() > 110 {
+                println!("{line},");
+                line = format!("  {item}");
+            } else {
+                line += &format!(", {item}");
+            }
+        }
+        println!("{line}");
+    }
+}
+
+#[cfg(test)]
+mod tests {
+    use super::*;
+
+    #[test]
+    fn no_name_stands_twice() {
+        let coverage = Coverage::new();
+        assert_eq!(coverage.counts.len(), coverage.len());
+        assert_eq!(coverage.missing().len(), coverage.len());
+    }
+}

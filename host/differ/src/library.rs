@@ -1,0 +1,136 @@
+//! The static library as include/hodsplinter.h declares it. All that is unsafe is in this module.
+
+extern "C" {
+    fn hods_open(file: *const u8, len: usize, record: *mut u64) -> u64;
+    fn hods_lookup(
+        file: *const u8,
+        len: usize,
+        record: *const u64,
+        name: *const u8,
+        name_len: usize,
+        trail: *mut u32,
+        places: usize,
+        answer: *mut u64,
+    ) -> u64;
+    fn hods_start(record: *const u64, cursor: *mut u64) -> u64;
+    fn hods_step(
+        file: *const u8,
+        len: usize,
+        record: *const u64,
+        cursor: *mut u64,
+        entry: *mut u64,
+    ) -> u64;
+    fn hods_chunk(
+        file: *const u8,
+        len: usize,
+        record: *const u64,
+        chunk: u64,
+        entries: *mut u64,
+        numbers: usize,
+        next: *mut u64,
+    ) -> u64;
+    fn hods_part(file: *const u8, len: usize, place: u64, length: u64) -> u64;
+    fn hods_write_head(
+        entries: *const u8,
+        len: usize,
+        density: u32,
+        time: u32,
+        language: u32,
+        content_length: u64,
+        out: *mut u8,
+        out_len: usize,
+        length: *mut u64,
+    ) -> u64;
+}
+
+// Safe throughout: each pointer comes from a slice or array of the length that is passed or that
+// the header fixes, and what is written is borrowed apart from what is read.
+
+pub fn open(file: &[u8], record: &mut [u64; 11]) -> u64 {
+    unsafe { hods_open(file.as_ptr(), file.len(), record.as_mut_ptr()) }
+}
+
+pub fn lookup(
+    file: &[u8],
+    record: &[u64; 11],
+    name: &[u8],
+    trail: &mut [u32],
+    answer: &mut [u64; 6],
+) -> u64 {
+    unsafe {
+        hods_lookup(
+            file.as_ptr(),
+            file.len(),
+            record.as_ptr(),
+            name.as_ptr(),
+            name.len(),
+            trail.as_mut_ptr(),
+            trail.len(),
+            answer.as_mut_ptr(),
+        )
+    }
+}
+
+pub fn start(record: &[u64; 11], cursor: &mut [u64; 2]) -> u64 {
+    unsafe { hods_start(record.as_ptr(), cursor.as_mut_ptr()) }
+}
+
+pub fn step(file: &[u8], record: &[u64; 11], cursor: &mut [u64; 2], entry: &mut [u64; 5]) -> u64 {
+    unsafe {
+        hods_step(
+            file.as_ptr(),
+            file.len(),
+            record.as_ptr(),
+            cursor.as_mut_ptr(),
+            entry.as_mut_ptr(),
+        )
+    }
+}
+
+pub fn chunk(
+    file: &[u8],
+    record: &[u64; 11],
+    chunk: u64,
+    entries: &mut [u64],
+    next: &mut [u64; 2],
+) -> u64 {
+    unsafe {
+        hods_chunk(
+            file.as_ptr(),
+            file.len(),
+            record.as_ptr(),
+            chunk,
+            entries.as_mut_ptr(),
+            entries.len(),
+            next.as_mut_ptr(),
+        )
+    }
+}
+
+pub fn part(file: &[u8], place: u64, length: u64) -> u64 {
+    unsafe { hods_part(file.as_ptr(), file.len(), place, length) }
+}
+
+pub fn write_head(
+    entries: &[u8],
+    density: u32,
+    time: u32,
+    language: u32,
+    content_length: u64,
+    out: &mut [u8],
+    length: &mut [u64; 1],
+) -> u64 {
+    unsafe {
+        hods_write_head(
+            entries.as_ptr(),
+            entries.len(),
+            density,
+            time,
+            language,
+            content_length,
+            out.as_mut_ptr(),
+            out.len(),
+            length.as_mut_ptr(),
+        )
+    }
+}

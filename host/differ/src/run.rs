@@ -1,0 +1,150 @@
+//! A case: what it asks, more questions about the same bytes, and what a written head reads like.
+
+use crate::compare::{Asked, Differ};
+use crate::{coverage, features, program};
+use second::generate::questions::{about, questions};
+use second::generate::{self, Aim, Call, Case, Input, Random};
+use second::{chunk_entries, encint, open, part, Report, NONE};
+use std::path::Path;
+
+/// The program is run on the file of every so many cases.
+const PROGRAM_RUNS: u64 = 32;
+
+/// Content that is appended to a head to read it back has at most this length.
+const CONTENT: u64 = 65_536;
+
+/// How the answers to a case differ.
+pub struct Difference {
+    pub label: &'static str,
+    /// What was asked, shortened.
+    pub asked: String,
+    /// Both answers.
+    pub answers: String,
+}
+
+/// Compares all that this case brings with it.
+pub fn run(differ: &mut Differ, list: &Path, seed: u64, index: u64) -> Result<(), Difference> {
+    let case = generate::case(seed, index);
+    differ.coverage.count("case", case.label);
+    // Another stream than that of the case, so that neither depends on what the other draws.
+    let random = &mut Random::of_case(!seed, index);
+    let failed = |asked: String, answers: String| Difference {
+        label: case.label,
+        asked,
+        answers,
+    };
+
+    let before = case.file.clone();
+    let asked = Asked::new(&case.file);
+    let mut calls = vec![case.call.clone()];
+    calls.extend(questions(random, &case));
+    for call in &calls {
+        let told = differ.compare(&asked, call);
+        told.map_err(|answers| failed(shown(&case.file, call), answers))?;
+    }
+    if case.file != before {
+        let told = "changed by the library".to_owned();
+        return Err(failed(format!("the file of {} bytes", before.len()), told));
+    }
+    if let Call::Write(input) = &case.call {
+        read_back(differ, random, input)
+            .map_err(|answers| failed(shown(&[], &case.call), answers))?;
+    } else if runs_program(&case, index) {
+        let asked = format!("list with {} bytes", case.file.len());
+        let written = program::run(list, &case.file)
+            .map_err(|error| failed(asked.clone(), error.to_string()))?;
+        let told = differ.program(&case.file, &written);
+        told.map_err(|answers| failed(asked, answers))?;
+    }
+    aim_is_hit(differ, &case).map_err(|answers| failed(shown(&case.file, &case.call), answers))?;
+    if let Some(record) = &asked.opened {
+        features::count(&mut differ.coverage, &case.file, record);
+    }
+    Ok(())
+}
+
+/// Both may be wrong alike: what the case was made for has to come of it.
+fn aim_is_hit(differ: &mut Differ, case: &Case) -> Result<(), String> {
+    let refusal = generate::refusal_of(&case.file, &case.call);
+    if let (Aim::Likely(_), Some(refusal)) = (case.aim, refusal) {
+        let number = coverage::number(refusal.number);
+        differ.coverage.count("the earlier of two damages", number);
+    }
+    if case.aim.allows(refusal) {
+        Ok(())
+    } else {
+        Err(format!("aim: {:?}\nboth: {refusal:?}", case.aim))
+    }
+}
+
+/// On every so many cases, and on all that are about as long as the program takes.
+fn runs_program(case: &Case, index: u64) -> bool {
+    index.is_multiple_of(PROGRAM_RUNS) || (59_999..=60_002).contains(&case.file.len())
+}
+
+/// Opens a written head with content behind it, asks it, and lists it whole.
+fn read_back(differ: &mut Differ, random: &mut Random, input: &Input) -> Result<(), String> {
+    // The library's head has been found equal to this one.
+    let mut file = match input.head() {
+        Ok(head) => head,
+        Err(_) => return Ok(()),
+    };
+    if input.content_length > CONTENT {
+        return Ok(());
+    }
+    file.extend(random.bytes(input.content_length as usize));
+    let asked = Asked::new(&file);
+    let mut compare = |call: &Call| {
+        let told = differ.compare(&asked, call);
+        told.map_err(|answers| format!("read back: {}\n{answers}", shown(&file, call)))
+    };
+    for call in about(random, &file, None) {
+        compare(&call)?;
+    }
+    let record = match asked.opened {
+        Some(record) => record,
+        None => return Err(format!("read back: both refuse, {:?}", open(&file))),
+    };
+    let mut entries = Vec::new();
+    let mut chunk = record.first;
+    while let Ok((reports, next)) = chunk_entries(&file, &record, chunk) {
+        compare(&Call::Page {
+            record,
+            chunk,
+            numbers: 4070,
+        })?;
+        entries.extend(reports.iter().flat_map(|report| entry_bytes(&file, report)));
+        chunk = next.into();
+    }
+    if chunk != u64::from(NONE) || entries != input.entries {
+        return Err("read back: both list other entries than were given".to_owned());
+    }
+    let chunks = match record.count {
+        1 => "1 chunk",
+        2..=127 => "several chunks",
+        _ => "128 chunks or more",
+    };
+    differ.coverage.count("head read back", chunks);
+    features::count(&mut differ.coverage, &file, &record);
+    Ok(())
+}
+
+/// An entry's own bytes.
+fn entry_bytes(file: &[u8], report: &Report) -> Vec<u8> {
+    let numbers = [report.section, report.offset, report.size];
+    let mut bytes = encint(report.length);
+    bytes.extend(part(file, report.place, report.length));
+    bytes.extend(numbers.into_iter().flat_map(encint));
+    bytes
+}
+
+/// What was asked, without the file, which a seed and a number make again.
+fn shown(file: &[u8], call: &Call) -> String {
+    const MOST: usize = 1000;
+    let mut text = format!("{call:?}");
+    if text.len() > MOST {
+        let half = MOST / 2;
+        text = format!("{} ... {}", &text[..half], &text[text.len() - half..]);
+    }
+    format!("{text} of a file of {} bytes", file.len())
+}

@@ -1,0 +1,175 @@
+//! Asking a book with a record (FORMAT, Descent and Asking).
+
+use crate::chunk::{read_chunk, Chunk, Entry, Limits, Stored, CHUNK};
+use crate::name::compare;
+use crate::open::DIRECTORY_HEADER;
+use crate::{require, Answer, Cursor, Record, Refusal, Report, Step, NONE};
+use std::cmp::Ordering;
+
+/// Looks a name up. `places` is the length of the trail that a caller lends; the answer's trail
+/// is what is to be written to its front (FORMAT K3 to K6, RO5).
+pub fn lookup(file: &[u8], record: &Record, name: &[u8], places: usize) -> Answer {
+    require((1..=1024).contains(&name.len()), 15)
+        .and_then(|()| require(places >= 5, 16))
+        .and_then(|()| descend(file, record, name))
+        .unwrap_or_else(Answer::Refused)
+}
+
+/// The descent for a name (FORMAT Q1 to Q6).
+fn descend(file: &[u8], record: &Record, name: &[u8]) -> Result<Answer, Refusal> {
+    let book = Asked::new(file, record)?;
+    let mut level = record.depth;
+    let mut at = match level {
+        1 => record.first,
+        _ => record.root,
+    };
+    let mut trail = Vec::new();
+    loop {
+        let chunk = book.meet(at)?;
+        trail.push(at as u32); // below the count, as it was met
+        match chunk {
+            Chunk::Listing { entries, .. } if level == 1 => {
+                let held = entries
+                    .iter()
+                    .find(|entry| compare(entry.name, name) == Ordering::Equal);
+                return Ok(match held {
+                    Some(entry) => Answer::Found {
+                        report: book.report(at, entry),
+                        trail,
+                    },
+                    None => Answer::Absent { trail },
+                });
+            }
+            Chunk::Index { entries } if level > 1 => {
+                let taken = entries
+                    .iter()
+                    .rfind(|entry| compare(entry.name, name) != Ordering::Greater);
+                match taken {
+                    Some(entry) => at = entry.value,
+                    None => return Ok(Answer::Absent { trail }),
+                }
+                level -= 1;
+            }
+            _ => return Err(Refusal::new(17)), // the wrong kind for its level
+        }
+    }
+}
+
+/// The cursor that a listing starts with (FORMAT K8).
+pub fn start(record: &Record) -> Cursor {
+    Cursor {
+        chunk: record.first,
+        entry: 0,
+    }
+}
+
+/// Reports the cursor's entry and moves on by one (FORMAT K9 to K11).
+pub fn step(file: &[u8], record: &Record, cursor: Cursor) -> Step {
+    try_step(file, record, cursor).unwrap_or_else(Step::Refused)
+}
+
+fn try_step(file: &[u8], record: &Record, cursor: Cursor) -> Result<Step, Refusal> {
+    let book = Asked::new(file, record)?;
+    if cursor.chunk == u64::from(NONE) {
+        return Ok(Step::End(cursor));
+    }
+    let (entries, next) = book.meet_listing(cursor.chunk)?;
+    let entry = usize::try_from(cursor.entry)
+        .ok()
+        .and_then(|index| entries.get(index))
+        .ok_or(Refusal::new(17))?;
+    let moved = if cursor.entry + 1 < entries.len() as u64 {
+        Cursor {
+            chunk: cursor.chunk,
+            entry: cursor.entry + 1,
+        }
+    } else {
+        Cursor {
+            chunk: u64::from(next),
+            entry: 0,
+        }
+    };
+    Ok(Step::Entry(book.report(cursor.chunk, entry), moved))
+}
+
+/// All entries of one listing chunk and the chunk's next, or 17.
+pub fn chunk_entries(
+    file: &[u8],
+    record: &Record,
+    chunk: u64,
+) -> Result<(Vec<Report>, u32), Refusal> {
+    let book = Asked::new(file, record)?;
+    let (entries, next) = book.meet_listing(chunk)?;
+    let reports = entries.iter().map(|entry| book.report(chunk, entry));
+    Ok((reports.collect(), next))
+}
+
+/// The bytes from `place` on, `length` of them; none if they are not all inside (FORMAT K15).
+pub fn part(file: &[u8], place: u64, length: u64) -> &[u8] {
+    let end = u128::from(place) + u128::from(length);
+    if end <= file.len() as u128 {
+        &file[place as usize..end as usize]
+    } else {
+        &[]
+    }
+}
+
+/// Bytes and a record that is not bad (FORMAT K12).
+struct Asked<'a> {
+    file: &'a [u8],
+    start: u64,
+    limits: Limits,
+}
+
+impl<'a> Asked<'a> {
+    fn new(file: &'a [u8], record: &Record) -> Result<Asked<'a>, Refusal> {
+        let length = file.len() as u64;
+        let good = record.density <= 7
+            && (1..=5).contains(&record.depth)
+            && (1..=4096).contains(&record.count)
+            && record.content <= length;
+        require(good, 17)?;
+        Ok(Asked {
+            file,
+            start: record.start,
+            limits: Limits {
+                density: record.density,
+                count: record.count,
+                content_length: length - record.content,
+            },
+        })
+    }
+
+    /// Where a chunk starts, exactly (FORMAT D19).
+    fn place(&self, number: u64) -> u128 {
+        u128::from(self.start) + DIRECTORY_HEADER as u128 + CHUNK as u128 * u128::from(number)
+    }
+
+    /// A chunk, checked whole before anything is answered from it (FORMAT K13, K14).
+    fn meet(&self, number: u64) -> Result<Chunk<'a>, Refusal> {
+        let place = self.place(number);
+        let end = place + CHUNK as u128;
+        let inside = number < self.limits.count && end <= self.file.len() as u128;
+        require(inside, 17)?;
+        let bytes = &self.file[place as usize..end as usize];
+        read_chunk(bytes, &self.limits).map_err(|_| Refusal::new(17))
+    }
+
+    fn meet_listing(&self, number: u64) -> Result<(Vec<Entry<'a, Stored>>, u32), Refusal> {
+        match self.meet(number)? {
+            Chunk::Listing { entries, next, .. } => Ok((entries, next)),
+            Chunk::Index { .. } => Err(Refusal::new(17)),
+        }
+    }
+
+    /// The five numbers of an entry of a chunk that was met (FORMAT K6).
+    fn report(&self, chunk: u64, entry: &Entry<Stored>) -> Report {
+        Report {
+            place: self.place(chunk) as u64 + entry.name_place as u64,
+            length: entry.name.len() as u64,
+            section: entry.value.section,
+            offset: entry.value.offset,
+            size: entry.value.size,
+        }
+    }
+}

@@ -1,0 +1,196 @@
+//! Seeded cases to compare another implementation with this one.
+//!
+//! A case follows from a seed and its number alone. It says what it aims at where that is known,
+//! so that the generators can be tested too: a refusal, or an answer that is none.
+
+pub mod ask;
+pub mod book;
+pub mod damage;
+pub mod large;
+pub mod names;
+pub mod opening;
+pub mod plan;
+pub mod questions;
+mod random;
+pub mod write;
+
+pub use random::Random;
+
+use crate::{chunk_entries, lookup, open, step, write_head, Answer, Cursor, Record, Refusal, Step};
+
+/// What is asked of a file.
+#[derive(Debug, Clone)]
+pub enum Call {
+    Open,
+    Lookup {
+        record: Record,
+        name: Vec<u8>,
+        /// The length of the lent trail.
+        places: usize,
+    },
+    Start {
+        record: Record,
+    },
+    Step {
+        record: Record,
+        cursor: Cursor,
+    },
+    /// All entries of a chunk at once.
+    Page {
+        record: Record,
+        chunk: u64,
+        /// The length of the lent slice; an entry takes five numbers.
+        numbers: usize,
+    },
+    Part {
+        place: u64,
+        length: u64,
+    },
+    /// The file has no part in this.
+    Write(Input),
+}
+
+/// What the writer is given.
+#[derive(Debug, Clone)]
+pub struct Input {
+    pub entries: Vec<u8>,
+    pub density: u32,
+    pub time: u32,
+    pub language: u32,
+    pub content_length: u64,
+    /// The length of the lent output.
+    pub out_len: usize,
+}
+
+impl Input {
+    /// What this implementation writes.
+    pub fn head(&self) -> Result<Vec<u8>, Refusal> {
+        self.head_within(self.out_len)
+    }
+
+    /// The same with another length of output.
+    pub fn head_within(&self, out_len: usize) -> Result<Vec<u8>, Refusal> {
+        write_head(
+            &self.entries,
+            self.density,
+            self.time,
+            self.language,
+            self.content_length,
+            out_len,
+        )
+    }
+}
+
+/// What has to come of a case.
+#[derive(Debug, Clone, Copy, PartialEq, Eq)]
+pub enum Aim {
+    /// An answer that is no refusal.
+    Good,
+    Refused(Refusal),
+    /// This refusal, unless something else in the case hides it.
+    Likely(Refusal),
+    /// Anything.
+    Free,
+}
+
+impl Aim {
+    /// Without a place.
+    fn refused(number: u8) -> Aim {
+        Aim::Refused(Refusal::new(number))
+    }
+
+    /// Whether this answer keeps what the case says; a hidden refusal does not break it.
+    pub fn allows(self, refusal: Option<Refusal>) -> bool {
+        match self {
+            Aim::Good => refusal.is_none(),
+            Aim::Refused(aimed) => refusal == Some(aimed),
+            Aim::Likely(_) | Aim::Free => true,
+        }
+    }
+}
+
+/// One case of a run.
+#[derive(Debug, Clone)]
+pub struct Case {
+    pub label: &'static str,
+    pub file: Vec<u8>,
+    pub call: Call,
+    pub aim: Aim,
+}
+
+/// Every so many cases there is one with as many chunks as a book may have, or more.
+const LARGE: u64 = 1500;
+
+/// The case of this number in the run of this seed.
+pub fn case(seed: u64, index: u64) -> Case {
+    let random = &mut Random::of_case(seed, index);
+    if index % LARGE == LARGE - 1 {
+        return large::case(random, index / LARGE);
+    }
+    match random.below(100) {
+        0..=54 => opening::case(random),
+        55..=70 => ask::lookup_case(random),
+        71..=82 => ask::step_case(random),
+        83..=84 => ask::part_case(random),
+        _ => write::case(random),
+    }
+}
+
+/// The labels of all cases that there are.
+pub fn labels() -> Vec<&'static str> {
+    let groups = [
+        opening::labels(),
+        ask::labels(),
+        write::labels(),
+        large::labels(),
+    ];
+    groups.concat()
+}
+
+/// A way to make a case out of a subject: a good book with what is asked, or good input.
+struct Kind<Subject> {
+    label: &'static str,
+    /// Changes the subject and says the aim; nothing if this subject cannot be made into the kind.
+    change: fn(&mut Random, &mut Subject) -> Option<Aim>,
+}
+
+/// Some kind, with a subject made into it.
+fn choose<Subject>(
+    random: &mut Random,
+    kinds: &[Kind<Subject>],
+    subject: fn(&mut Random) -> Subject,
+) -> (&'static str, Subject, Aim) {
+    let kind = &kinds[random.index(kinds.len())];
+    loop {
+        let mut subject = subject(random);
+        if let Some(aim) = (kind.change)(random, &mut subject) {
+            return (kind.label, subject, aim);
+        }
+    }
+}
+
+fn labels_of<Subject>(kinds: &[Kind<Subject>]) -> Vec<&'static str> {
+    kinds.iter().map(|kind| kind.label).collect()
+}
+
+/// How this implementation refuses a call, if it does.
+pub fn refusal_of(file: &[u8], call: &Call) -> Option<Refusal> {
+    match call {
+        Call::Open => open(file).err(),
+        Call::Lookup {
+            record,
+            name,
+            places,
+        } => match lookup(file, record, name, *places) {
+            Answer::Refused(refusal) => Some(refusal),
+            _ => None,
+        },
+        Call::Step { record, cursor } => match step(file, record, *cursor) {
+            Step::Refused(refusal) => Some(refusal),
+            _ => None,
+        },
+        Call::Page { record, chunk, .. } => chunk_entries(file, record, *chunk).err(),
+        Call::Start { .. } | Call::Part { .. } => None,
+        Call::Write(input) => input.head().err(),
+    }
+}

@@ -1,0 +1,359 @@
+//! The generators: what they call good is good, and what they aim at is hit.
+
+use second::generate::ask::{lookup_case, step_case};
+use second::generate::book::{book, book_of_depth};
+use second::generate::damage::{damaged, damaged_twice, damages, varied};
+use second::generate::names::other_case;
+use second::generate::plan::Book;
+use second::generate::questions::questions;
+use second::generate::write::{deep_items, good_items, wide_entries};
+use second::generate::{case, labels, refusal_of, Aim, Call, Case, Random};
+use second::*;
+use std::collections::{BTreeMap, BTreeSet};
+
+/// All entries by steps of the cursor.
+fn listing(file: &[u8], record: &Record) -> Vec<Report> {
+    let mut reports = Vec::new();
+    let mut cursor = start(record);
+    loop {
+        match step(file, record, cursor) {
+            Step::Entry(report, moved) => {
+                reports.push(report);
+                cursor = moved;
+            }
+            Step::End(end) => {
+                assert_eq!(end, cursor);
+                return reports;
+            }
+            Step::Refused(refusal) => panic!("{refusal:?}"),
+        }
+    }
+}
+
+/// All entries by whole chunks.
+fn listing_by_chunks(file: &[u8], record: &Record) -> Vec<Report> {
+    let mut reports = Vec::new();
+    let mut chunk = record.first;
+    while chunk != u64::from(NONE) {
+        let (entries, next) = chunk_entries(file, record, chunk).unwrap();
+        reports.extend(entries);
+        chunk = next.into();
+    }
+    reports
+}
+
+/// Opens, lists and asks a good book, and compares with its plan.
+fn check_good(random: &mut Random, book: &Book) {
+    let file = book.bytes();
+    let record = open(&file).expect("a good book opens");
+    assert_eq!(record, book.record());
+    let reports = listing_by_chunks(&file, &record);
+    assert_eq!(reports, book.reports());
+    if reports.len() < 100 {
+        assert_eq!(listing(&file, &record), reports);
+    }
+    let items = book.items();
+    assert_eq!(reports.len(), items.len());
+    for (report, item) in reports.iter().zip(&items) {
+        let name = part(&file, report.place, report.length);
+        assert_eq!(name, item.name);
+        assert_eq!(
+            [report.section, report.offset, report.size],
+            item.fields[..]
+        );
+    }
+    for _ in 0..20 {
+        let at = random.index(items.len());
+        let name = &items[at].name;
+        let asked = other_case(random, name).unwrap_or(name.clone());
+        for name in [name, &asked] {
+            match lookup(&file, &record, name, 5) {
+                Answer::Found { report, trail } => {
+                    assert_eq!(report, reports[at]);
+                    assert_eq!(trail.len() as u64, record.depth);
+                    assert!(trail[0] == book.root || record.depth == 1);
+                }
+                other => panic!("{other:?}"),
+            }
+        }
+    }
+}
+
+#[test]
+fn good_books_are_good() {
+    let random = &mut Random::new(11);
+    let mut seen = BTreeSet::new();
+    for index in 0..400 {
+        let book = match index % 8 {
+            0 => book_of_depth(random, 1 + index / 8 % 5),
+            _ => book(random),
+        };
+        check_good(random, &book);
+        for chunk in &book.chunks {
+            let full = chunk.tail() == 2 + 2 * chunk.words(book.density);
+            let words = chunk.words(book.density).min(2);
+            let kind = if chunk.is_listing() {
+                "listing"
+            } else {
+                "index"
+            };
+            seen.insert(format!("{kind}, {words} words, full {full}"));
+            for item in &chunk.items {
+                let length = item.name.len();
+                if [1, 127, 128, 1024].contains(&length) {
+                    seen.insert(format!("name of {length}"));
+                }
+            }
+        }
+        seen.insert(format!("version {}", book.version));
+        seen.insert(format!("density {}", book.density));
+        seen.insert(format!("depth {}", book.depth));
+        seen.insert(format!("section 0 first {}", book.section_first));
+        seen.insert(format!("no gaps {}", book.gaps == [0; 3]));
+        seen.insert(format!("content {}", !book.content.is_empty()));
+        seen.insert(format!("noise {}", book.noise.is_some()));
+        seen.insert(format!("one root {}", book.depth == 1 && book.root == 0));
+        seen.insert(format!("many chunks {}", book.chunks.len() > 128));
+        let rising = book.chain().windows(2).all(|pair| pair[0] < pair[1]);
+        seen.insert(format!("numbered along the chain {rising}"));
+    }
+    // Every feature came up: full and loose chunks of both kinds with 0, 1 and more words; four
+    // lengths of names; versions, densities, depths; and seven things that are or are not so.
+    let missing = 12 + 4 + 2 + 8 + 5 + 7 * 2 - seen.len();
+    assert_eq!(missing, 0, "{seen:#?}");
+}
+
+/// A lookup agrees with a search through the whole listing.
+#[test]
+fn lookups_agree_with_the_listing() {
+    let mut found = 0;
+    let mut absent = 0;
+    let random = &mut Random::new(12);
+    for _ in 0..3000 {
+        let case = lookup_case(random);
+        let file = case.file;
+        let (record, name, places) = match case.call {
+            Call::Lookup {
+                record,
+                name,
+                places,
+            } => (record, name, places),
+            _ => unreachable!(),
+        };
+        if open(&file) != Ok(record) || case.aim != Aim::Good {
+            continue;
+        }
+        let held = listing_by_chunks(&file, &record)
+            .into_iter()
+            .find(|report| compare(part(&file, report.place, report.length), &name).is_eq());
+        match lookup(&file, &record, &name, places) {
+            Answer::Found { report, .. } => {
+                assert_eq!(Some(report), held);
+                found += 1;
+            }
+            Answer::Absent { trail } => {
+                assert_eq!(None, held);
+                assert!(trail.len() == 1 || trail.len() as u64 == record.depth);
+                absent += 1;
+            }
+            Answer::Refused(refusal) => panic!("{refusal:?}"),
+        }
+    }
+    assert!(found > 100 && absent > 100, "{found} {absent}");
+}
+
+/// A step and the list of a whole chunk say the same, and both refuse the same.
+#[test]
+fn steps_agree_with_whole_chunks() {
+    let random = &mut Random::new(18);
+    for _ in 0..1500 {
+        let Case { file, call, .. } = step_case(random);
+        let (record, cursor) = match call {
+            Call::Step { record, cursor } => (record, cursor),
+            _ => unreachable!(),
+        };
+        let whole = chunk_entries(&file, &record, cursor.chunk);
+        match step(&file, &record, cursor) {
+            Step::Entry(report, moved) => {
+                let (reports, next) = whole.unwrap();
+                let at = cursor.entry as usize;
+                assert_eq!(report, reports[at]);
+                let (chunk, entry) = match at + 1 == reports.len() {
+                    true => (next.into(), 0),
+                    false => (cursor.chunk, cursor.entry + 1),
+                };
+                assert_eq!(moved, Cursor { chunk, entry });
+            }
+            Step::End(end) => {
+                assert_eq!(end, cursor);
+                assert_eq!(whole, Err(Refusal::new(17)));
+            }
+            Step::Refused(refusal) => {
+                assert_eq!(refusal, Refusal::new(17));
+                let lacks =
+                    |(reports, _): &(Vec<Report>, u32)| reports.len() as u64 <= cursor.entry;
+                assert!(whole.as_ref().is_ok_and(lacks) || whole == Err(refusal));
+            }
+        }
+    }
+}
+
+#[test]
+fn unchecked_bytes_do_not_matter() {
+    let random = &mut Random::new(13);
+    for _ in 0..300 {
+        let book = varied(random);
+        let record = open(&book.bytes()).expect("no rule is broken");
+        let changed = Record {
+            time: record.time,
+            language: record.language,
+            ..book.record()
+        };
+        assert_eq!(record, changed);
+    }
+}
+
+/// Every row of damage gives exactly its refusal, each time.
+#[test]
+fn damage_hits_its_number() {
+    let random = &mut Random::new(14);
+    let mut rows = BTreeMap::new();
+    for damage in damages() {
+        for _ in 0..12 {
+            let (broken, refusal) = damaged(random, damage);
+            assert_eq!(open(&broken.bytes()), Err(refusal), "{}", damage.label);
+        }
+        *rows.entry(damage.number).or_insert(0) += 1;
+    }
+    assert_eq!(
+        rows.keys().copied().collect::<Vec<u8>>(),
+        (1..=14).collect::<Vec<u8>>()
+    );
+}
+
+/// Of two breaks the one that is checked first is the answer, unless one undoes the other.
+#[test]
+fn the_first_of_two_damages_is_the_answer() {
+    let random = &mut Random::new(15);
+    let mut masked = 0;
+    for _ in 0..1000 {
+        let (broken, refusal) = damaged_twice(random);
+        if open(&broken.bytes()) != Err(refusal) {
+            masked += 1;
+        }
+    }
+    assert!(masked < 50, "{masked}");
+}
+
+/// What the writer makes opens, with the given entries.
+#[test]
+fn written_heads_open() {
+    let random = &mut Random::new(16);
+    for _ in 0..300 {
+        let content = random.below(2000);
+        let items = good_items(random, content);
+        let entries: Vec<u8> = items.iter().flat_map(|item| item.bytes()).collect();
+        let density = random.below(8) as u32;
+        let head = write_head(&entries, density, 7, 8, content, usize::MAX).unwrap();
+        let file = [head, random.bytes(content as usize)].concat();
+        let record = open(&file).unwrap();
+        assert_eq!((record.time, record.language), (7, 8));
+        assert_eq!((record.start, record.density), (120, density.into()));
+        assert_eq!(record.content, 204 + 4096 * record.count);
+        let reports = listing_by_chunks(&file, &record);
+        assert_eq!(reports.len(), items.len());
+        for (report, item) in reports.iter().zip(&items) {
+            assert_eq!(part(&file, report.place, report.length), item.name);
+            assert_eq!(
+                [report.section, report.offset, report.size],
+                item.fields[..]
+            );
+        }
+    }
+}
+
+/// FORMAT R19 by depth: 81 listing chunks are the most where three entries fill a chunk.
+#[test]
+fn deepest_head() {
+    let random = &mut Random::new(17);
+    let entries: Vec<Vec<u8>> = deep_items(random, 244)
+        .iter()
+        .map(|item| item.bytes())
+        .collect();
+    let head = write_head(&entries[..243].concat(), 0, 0, 0, 0, usize::MAX).unwrap();
+    let record = open(&head).unwrap();
+    assert_eq!((record.depth, record.count), (5, 81 + 27 + 9 + 3 + 1));
+    let deeper = write_head(&entries.concat(), 0, 0, 0, 0, usize::MAX);
+    assert_eq!(deeper, Err(Refusal::new(19)));
+}
+
+/// FORMAT R19 and D11 by count: 4,096 chunks are written and opened, 4,097 are not.
+#[test]
+fn longest_head() {
+    // 4,085 listing chunks, 10 index chunks and the root.
+    let all = wide_entries(4086);
+    let one = all.len() / 4086;
+    let head = write_head(&all[..4085 * one], 2, 0, 0, 0, usize::MAX).unwrap();
+    let record = open(&head).unwrap();
+    assert_eq!((record.depth, record.count), (3, 4096));
+    let refused = write_head(&all, 2, 0, 0, 0, usize::MAX);
+    assert_eq!(refused, Err(Refusal::new(19)));
+
+    // One chunk more, all lengths and places to match: only the count is too high.
+    let mut longer = head.clone();
+    longer.extend(&head[head.len() - 4096..]);
+    for (place, value) in [
+        (0x50, 84 + 4096 * 4097),
+        (0x58, longer.len()),
+        (0x68, longer.len()),
+    ] {
+        longer[place..place + 8].copy_from_slice(&(value as u64).to_le_bytes());
+    }
+    longer[0x78 + 0x2C..0x78 + 0x30].copy_from_slice(&4097u32.to_le_bytes());
+    assert_eq!(open(&longer), Err(Refusal::new(7)));
+}
+
+/// A long run: every aim is hit, and every kind of case and every number come up.
+#[test]
+fn a_run_meets_every_refusal() {
+    let mut numbers = BTreeMap::new();
+    let mut seen = BTreeSet::new();
+    let mut masked = 0;
+    for index in 0..20_000 {
+        let case = case(1, index);
+        let refusal = refusal_of(&case.file, &case.call);
+        let (aim, label) = (case.aim, case.label);
+        assert!(
+            aim.allows(refusal),
+            "case {index}, {label}: {aim:?}, {refusal:?}"
+        );
+        if let Aim::Likely(aimed) = aim {
+            masked += u64::from(refusal != Some(aimed));
+        }
+        let number = refusal.map_or(0, |refusal| refusal.number);
+        *numbers.entry(number).or_insert(0) += 1;
+        seen.insert(label);
+    }
+    for number in 0..=20 {
+        assert!(numbers.get(&number) > Some(&20), "{number}: {numbers:?}");
+    }
+    assert_eq!(seen, labels().into_iter().collect());
+    assert!(masked < 100, "{masked}");
+}
+
+/// The questions that a case brings with it can all be asked, and get answers of every kind.
+#[test]
+fn questions_meet_every_refusal() {
+    let mut numbers = BTreeMap::new();
+    for index in 0..3000 {
+        let random = &mut Random::of_case(2, index);
+        let case = case(1, index);
+        for call in questions(random, &case) {
+            let number = refusal_of(&case.file, &call).map_or(0, |refusal| refusal.number);
+            *numbers.entry(number).or_insert(0) += 1;
+        }
+    }
+    for number in 0..=20 {
+        assert!(numbers.get(&number) > Some(&20), "{number}: {numbers:?}");
+    }
+}

@@ -1,0 +1,305 @@
+//! The worked examples of docs/FORMAT.md, and the lines that its rows draw.
+
+use second::*;
+use std::cmp::Ordering;
+
+/// FORMAT N9.
+#[test]
+fn encints_that_are_read() {
+    let eight = [&[0xFF; 8][..], &[0x7F]].concat();
+    let examples: [(&[u8], u64); 7] = [
+        (&[0x00], 0),
+        (&[0x7F], 127),
+        (&[0x81, 0x00], 128),
+        (&[0xEA, 0x15], 13_589),
+        (&[0xFF, 0x7F], 16_383),
+        (&[0x81, 0x80, 0x00], 16_384),
+        (&eight, (1 << 63) - 1),
+    ];
+    for (bytes, value) in examples {
+        assert_eq!(read_encint(bytes), Some((value, bytes.len())));
+        assert_eq!(encint(value), bytes);
+        let followed = [bytes, &[0x80]].concat();
+        assert_eq!(read_encint(&followed), Some((value, bytes.len())));
+    }
+}
+
+/// FORMAT N10, N6.
+#[test]
+fn encints_that_are_refused() {
+    let nine = [&[0xFF; 9][..], &[0x7F]].concat();
+    let refused: [&[u8]; 6] = [&[0x80, 0x01], &nine, &[], &[0x80], &[0x81], &[0xFF; 9]];
+    for bytes in refused {
+        assert_eq!(read_encint(bytes), None);
+    }
+}
+
+/// FORMAT N4: reading and writing are inverse over every length.
+#[test]
+fn each_value_has_one_encint() {
+    for bits in 0..63 {
+        for value in [1u64 << bits, (1 << bits) - 1, (1 << bits) + 1] {
+            let bytes = encint(value);
+            assert_eq!(read_encint(&bytes), Some((value, bytes.len())));
+        }
+    }
+}
+
+/// FORMAT S1 to S3.
+#[test]
+fn names() {
+    assert_eq!(compare(b"/A", b"/a"), Ordering::Equal);
+    assert_eq!(compare(b"/a", b"/a.htm"), Ordering::Less);
+    assert_eq!(compare(b"/[", b"/Z"), Ordering::Less);
+    assert_eq!(compare(b"/Z", b"/["), Ordering::Greater);
+    assert_eq!(compare(b"", b"a"), Ordering::Less);
+    for byte in 0..=255u8 {
+        let lower = if byte.is_ascii_uppercase() {
+            byte + 32
+        } else {
+            byte
+        };
+        for other in 0..=255u8 {
+            let expected = lower.cmp(&if other.is_ascii_uppercase() {
+                other + 32
+            } else {
+                other
+            });
+            assert_eq!(compare(&[byte], &[other]), expected);
+        }
+    }
+}
+
+/// FORMAT C14, C6.
+#[test]
+fn quick_words_by_density() {
+    let examples = [(5, 2, 0), (6, 2, 1), (10, 2, 1), (11, 2, 2), (1, 0, 0)];
+    for (c, density, words) in examples {
+        assert_eq!(quick_words(c, density), words);
+    }
+    for density in 0..=7 {
+        let step = 1 + (1 << density);
+        assert_eq!(quick_words(step, density), 0);
+        assert_eq!(quick_words(step + 1, density), 1);
+    }
+}
+
+const SAMPLE_ENTRIES: [u8; 15] = [
+    0x01, 0x2F, 0x00, 0x00, 0x00, // `/`
+    0x06, 0x2F, 0x61, 0x2E, 0x68, 0x74, 0x6D, 0x00, 0x00, 0x05, // `/a.htm`
+];
+
+/// The head of the sample book, byte by byte (FORMAT W3 to W16): time 12345678, language 0409.
+fn sample_head() -> Vec<u8> {
+    #[rustfmt::skip]
+    let headers = [
+        0x49, 0x54, 0x53, 0x46,  0x03, 0x00, 0x00, 0x00,  0x60, 0x00, 0x00, 0x00,  0x01, 0x00, 0x00, 0x00,
+        0x78, 0x56, 0x34, 0x12,  0x09, 0x04, 0x00, 0x00,
+        0x10, 0xFD, 0x01, 0x7C, 0xAA, 0x7B, 0xD0, 0x11, 0x9E, 0x0C, 0x00, 0xA0, 0xC9, 0x22, 0xE6, 0xEC,
+        0x11, 0xFD, 0x01, 0x7C, 0xAA, 0x7B, 0xD0, 0x11, 0x9E, 0x0C, 0x00, 0xA0, 0xC9, 0x22, 0xE6, 0xEC,
+        0x60, 0x00, 0x00, 0x00, 0x00, 0x00, 0x00, 0x00,  0x18, 0x00, 0x00, 0x00, 0x00, 0x00, 0x00, 0x00,
+        0x78, 0x00, 0x00, 0x00, 0x00, 0x00, 0x00, 0x00,  0x54, 0x10, 0x00, 0x00, 0x00, 0x00, 0x00, 0x00,
+        0xCC, 0x10, 0x00, 0x00, 0x00, 0x00, 0x00, 0x00,
+        // Section 0; the file has 4,305 bytes.
+        0xFE, 0x01, 0x00, 0x00,  0x00, 0x00, 0x00, 0x00,  0xD1, 0x10, 0x00, 0x00, 0x00, 0x00, 0x00, 0x00,
+        0x00, 0x00, 0x00, 0x00,  0x00, 0x00, 0x00, 0x00,
+        // The directory header.
+        0x49, 0x54, 0x53, 0x50,  0x01, 0x00, 0x00, 0x00,  0x54, 0x00, 0x00, 0x00,  0x0A, 0x00, 0x00, 0x00,
+        0x00, 0x10, 0x00, 0x00,  0x02, 0x00, 0x00, 0x00,  0x01, 0x00, 0x00, 0x00,  0xFF, 0xFF, 0xFF, 0xFF,
+        0x00, 0x00, 0x00, 0x00,  0x00, 0x00, 0x00, 0x00,  0xFF, 0xFF, 0xFF, 0xFF,  0x01, 0x00, 0x00, 0x00,
+        0x09, 0x04, 0x00, 0x00,
+        0x6A, 0x92, 0x02, 0x5D, 0x2E, 0x21, 0xD0, 0x11, 0x9D, 0xF9, 0x00, 0xA0, 0xC9, 0x22, 0xE6, 0xEC,
+        0x54, 0x00, 0x00, 0x00,  0xFF, 0xFF, 0xFF, 0xFF,  0xFF, 0xFF, 0xFF, 0xFF,  0xFF, 0xFF, 0xFF, 0xFF,
+    ];
+    assert_eq!(headers.len(), 204);
+    #[rustfmt::skip]
+    let mut chunk = vec![
+        0x50, 0x4D, 0x47, 0x4C, 0xDD, 0x0F, 0x00, 0x00, 0x00, 0x00, 0x00, 0x00,
+        0xFF, 0xFF, 0xFF, 0xFF, 0xFF, 0xFF, 0xFF, 0xFF,
+        0x01, 0x2F, 0x00, 0x00, 0x00,
+        0x06, 0x2F, 0x61, 0x2E, 0x68, 0x74, 0x6D, 0x00, 0x00, 0x05,
+    ];
+    chunk.resize(4094, 0);
+    chunk.extend([0x02, 0x00]);
+    [&headers[..], &chunk].concat()
+}
+
+fn sample_book() -> Vec<u8> {
+    [sample_head(), b"12345".to_vec()].concat()
+}
+
+#[test]
+fn sample_book_is_written() {
+    let head = write_head(&SAMPLE_ENTRIES, 2, 0x1234_5678, 0x409, 5, 4300);
+    assert_eq!(head, Ok(sample_head()));
+    let head = write_head(&SAMPLE_ENTRIES, 2, 0x1234_5678, 0x409, 5, 4299);
+    assert_eq!(head, Err(Refusal::new(20)));
+}
+
+#[test]
+fn sample_book_is_read() {
+    let file = sample_book();
+    assert_eq!(file.len(), 4305);
+    let record = Record {
+        version: 3,
+        time: 0x1234_5678,
+        language: 0x409,
+        start: 0x78,
+        count: 1,
+        density: 2,
+        depth: 1,
+        root: 0xFFFF_FFFF,
+        first: 0,
+        last: 0,
+        content: 4300,
+    };
+    assert_eq!(open(&file), Ok(record));
+
+    let slash = Report {
+        place: 225,
+        length: 1,
+        section: 0,
+        offset: 0,
+        size: 0,
+    };
+    let page = Report {
+        place: 230,
+        length: 6,
+        section: 0,
+        offset: 0,
+        size: 5,
+    };
+    let second = Cursor { chunk: 0, entry: 1 };
+    let end = Cursor {
+        chunk: 0xFFFF_FFFF,
+        entry: 0,
+    };
+    assert_eq!(
+        step(&file, &record, start(&record)),
+        Step::Entry(slash, second)
+    );
+    assert_eq!(step(&file, &record, second), Step::Entry(page, end));
+    assert_eq!(step(&file, &record, end), Step::End(end));
+    assert_eq!(
+        chunk_entries(&file, &record, 0),
+        Ok((vec![slash, page], NONE))
+    );
+
+    let trail = vec![0];
+    assert_eq!(
+        lookup(&file, &record, b"/A.HTM", 5),
+        Answer::Found {
+            report: page,
+            trail: trail.clone()
+        }
+    );
+    assert_eq!(
+        lookup(&file, &record, b"/a.ht", 5),
+        Answer::Absent { trail }
+    );
+    assert_eq!(part(&file, 230, 6), b"/a.htm");
+    assert_eq!(part(&file, 4300, 5), b"12345");
+    assert_eq!(part(&file, 4300, 6), b"");
+    assert_eq!(part(&file, u64::MAX, 2), b"");
+}
+
+/// FORMAT P1 to P6.
+#[test]
+fn frames_of_the_program() {
+    let mut file = sample_book();
+    assert_eq!(frames(&file), "012f000000\n062f612e68746d000005\n");
+    // A next where there is no chunk.
+    file[204 + 0x10] = 0;
+    assert_eq!(frames(&file), "ee0dffffffff\n");
+    file[204] = b'Q';
+    assert_eq!(frames(&file), "ee0800000000\n");
+    assert_eq!(frames(&[]), "ee01ffffffff\n");
+    assert_eq!(frames(&[0; 60_000]), "ee02ffffffff\n");
+    assert_eq!(frames(&[0; 60_001]), "ee1dffffffff\n");
+}
+
+/// FORMAT R1 to R5 on the sample book: the borders of its length.
+#[test]
+fn short_files() {
+    let file = sample_book();
+    let refused = |length: usize| open(&file[..length]).unwrap_err();
+    assert_eq!(refused(0), Refusal::new(1));
+    assert_eq!(refused(95), Refusal::new(1));
+    assert_eq!(refused(96), Refusal::new(4));
+    assert_eq!(refused(4299), Refusal::new(4));
+    assert_eq!(refused(4300), Refusal::new(5));
+    assert_eq!(refused(4304), Refusal::new(5));
+    let longer = [&file[..], &[0]].concat();
+    assert_eq!(open(&longer), Err(Refusal::new(5)));
+}
+
+/// FORMAT RO5, K11: what is looked at first.
+#[test]
+fn order_of_the_checks_when_asking() {
+    let file = sample_book();
+    let good = open(&file).unwrap();
+    let bad = Record { density: 8, ..good };
+    let refused = |number| Answer::Refused(Refusal::new(number));
+    assert_eq!(lookup(&file, &bad, b"", 4), refused(15));
+    assert_eq!(lookup(&file, &bad, &[b'a'; 1025], 4), refused(15));
+    assert_eq!(lookup(&file, &bad, &[b'a'; 1024], 4), refused(16));
+    assert_eq!(lookup(&file, &bad, &[b'a'; 1024], 5), refused(17));
+    let end = Cursor {
+        chunk: 0xFFFF_FFFF,
+        entry: 7,
+    };
+    assert_eq!(step(&file, &good, end), Step::End(end));
+    assert_eq!(step(&file, &bad, end), Step::Refused(Refusal::new(17)));
+    let far = Cursor {
+        chunk: 0x1_FFFF_FFFF,
+        entry: 0,
+    };
+    assert_eq!(step(&file, &good, far), Step::Refused(Refusal::new(17)));
+}
+
+/// FORMAT W2, RO6.
+#[test]
+fn order_of_the_checks_when_writing() {
+    let write = |entries: &[u8], density, content_length| {
+        write_head(entries, density, 0, 0, content_length, 0).unwrap_err()
+    };
+    assert_eq!(write(&SAMPLE_ENTRIES, 2, 5), Refusal::new(20));
+    assert_eq!(write(&SAMPLE_ENTRIES, 7, (1 << 62) - 1), Refusal::new(20));
+    assert_eq!(write(&SAMPLE_ENTRIES, 8, 5), Refusal::new(18));
+    assert_eq!(write(&SAMPLE_ENTRIES, 7, 1 << 62), Refusal::new(18));
+    assert_eq!(write(&SAMPLE_ENTRIES, 2, 4), Refusal::new(18));
+    assert_eq!(write(&[], 2, 5), Refusal::new(18));
+    for length in (1..SAMPLE_ENTRIES.len()).filter(|&length| length != 5) {
+        assert_eq!(write(&SAMPLE_ENTRIES[..length], 2, 5), Refusal::new(18));
+    }
+    let twice = [SAMPLE_ENTRIES, SAMPLE_ENTRIES].concat();
+    assert_eq!(write(&twice, 2, 5), Refusal::new(18));
+}
+
+/// FORMAT W10: a chunk that is full to the last byte, and one byte more.
+#[test]
+fn chunks_are_filled() {
+    let entry = |name: u8, length: usize| {
+        let mut bytes = encint(length as u64);
+        bytes.extend(vec![name; length]);
+        bytes.extend([1, 0, 0]);
+        bytes
+    };
+    // 20 + 3 x 1,029 + 987 + 2 = 4,096.
+    let full = [entry(1, 1024), entry(2, 1024), entry(3, 1024)].concat();
+    let count = |last: usize, density| {
+        let entries = [full.clone(), entry(4, last)].concat();
+        (write_head(&entries, density, 0, 0, 0, usize::MAX)
+            .unwrap()
+            .len()
+            - 204)
+            / 4096
+    };
+    assert_eq!(count(982, 2), 1);
+    assert_eq!(count(983, 2), 3);
+    // At density 0 four entries have a quick word, of two bytes.
+    assert_eq!(count(980, 0), 1);
+    assert_eq!(count(981, 0), 3);
+    assert_eq!(count(982, 1), 3);
+    assert_eq!(count(980, 1), 1);
+}

@@ -1,0 +1,18 @@
+"""The static library for C: its path, after building it where it is missing or older than a file of the crates. Building proves its crate again, so tests
+and benchmarks share one."""
+import pathlib
+import subprocess
+
+top = pathlib.Path(__file__).resolve().parents[1]
+path = top / 'target/staticlib/libhodsplinter.a'
+
+
+def archive():
+    sources = [top / 'crates.txt'] + [p for p in (top / 'crates').rglob('*') if p.is_file()]
+    if not path.exists() or path.stat().st_mtime < max(p.stat().st_mtime for p in sources):
+        subprocess.run(['rt', 'staticlib', 'hodsplinter'], cwd=top, check=True, stdout=subprocess.DEVNULL)
+    return str(path)
+
+
+if __name__ == '__main__':
+    print(archive())

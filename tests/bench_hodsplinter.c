@@ -1,0 +1,92 @@
+/* Measures this library. The book is lent as mapped bytes. */
+#include "bench.h"
+
+#include "../include/hodsplinter.h"
+
+static uint64_t record[11], page[4070];
+static uint8_t *entries, *head;
+static size_t entries_len, head_len;
+
+static size_t encint_len(uint64_t n) {
+    size_t len = 1;
+    while (n >>= 7) len++;
+    return len;
+}
+
+/* The bytes of all entries one behind another, from their reports: each number has one encoding. */
+static void gather(void) {
+    uint64_t next[2];
+    entries = malloc(book_len);
+    for (uint64_t chunk = record[8]; chunk != 0xFFFFFFFFu; chunk = next[1]) {
+        if (hods_chunk(book, book_len, record, chunk, page, 4070, next)) fail("listing refused");
+        for (uint64_t *e = page; e < page + 5 * next[0]; e += 5) {
+            size_t front = encint_len(e[1]), len = front + e[1] + encint_len(e[2]) + encint_len(e[3]) + encint_len(e[4]);
+            memcpy(entries + entries_len, book + e[0] - front, len);
+            entries_len += len;
+        }
+    }
+    head_len = record[10];
+    head = malloc(head_len);
+}
+
+static void ready(void) {
+    if (hods_open(book, book_len, record)) fail("refused");
+    gather();
+}
+
+void measure_open(void) {
+    uint64_t r[11];
+    if (hods_open(book, book_len, r)) fail("refused");
+    kept += r[4];
+}
+
+void measure_open_path(void) {
+    size_t len;
+    uint64_t r[11];
+    const uint8_t *at = mapped(book_path, &len, 0);
+    if (hods_open(at, len, r)) fail("refused");
+    munmap((void *)at, len);
+    kept += r[4];
+}
+
+void measure_find_hit(void) {
+    uint32_t trail[5];
+    uint64_t answer[6];
+    for (size_t i = 0; i < there_count; i++) {
+        if (hods_lookup(book, book_len, record, (const uint8_t *)there[i].text, there[i].len, trail, 5, answer) != 0) fail("not found");
+        kept += answer[4];
+    }
+}
+
+void measure_find_miss(void) {
+    uint32_t trail[5];
+    uint64_t answer[6];
+    for (size_t i = 0; i < missing_count; i++)
+        if (hods_lookup(book, book_len, record, (const uint8_t *)missing[i].text, missing[i].len, trail, 5, answer) != 255) fail("found");
+}
+
+/* Of each entry: its length, its offset and the last byte of its name. */
+void measure_list(void) {
+    uint64_t next[2], sum = 0;
+    for (uint64_t chunk = record[8]; chunk != 0xFFFFFFFFu; chunk = next[1]) {
+        if (hods_chunk(book, book_len, record, chunk, page, 4070, next)) fail("listing refused");
+        for (uint64_t *e = page; e < page + 5 * next[0]; e += 5) sum += e[3] + e[4] + book[e[0] + e[1] - 1];
+    }
+    kept += sum;
+}
+
+void measure_write(void) {
+    uint64_t len[1];
+    if (hods_write_head(entries, entries_len, (uint32_t)record[5], (uint32_t)record[1], (uint32_t)record[2], book_len - record[10], head, head_len, len))
+        fail("not written");
+    kept += len[0];
+}
+
+int main(int argc, char **argv) {
+    static const struct measure all[] = {{"open", measure_open},           {"open_path", measure_open_path}, {"find_hit", measure_find_hit},
+                                         {"find_miss", measure_find_miss}, {"list", measure_list},           {"write", measure_write}};
+    int status = measured(argc, argv, "hodsplinter", all, sizeof all / sizeof *all, ready);
+    /* the books for measuring have the head that the writer makes */
+    if (argc == 3 && memcmp(head, book, head_len)) fail("the head that was written is not the book's");
+    return status;
+}
