@@ -17,6 +17,7 @@
 #![warn(missing_docs)]
 
 mod book;
+mod declared;
 mod encint;
 mod entry;
 mod listing;

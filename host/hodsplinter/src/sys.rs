@@ -1,9 +1,10 @@
-//! The C functions of `include/hodsplinter.h`, each behind a function that lends it slices. All unsafe code of the workspace is here.
+//! The C functions of `include/hodsplinter.h`, each behind a function that lends it slices. All unsafe code of the wrapper is here.
 //!
 //! What the C side asks of its caller is that slices are real (a pointer that is not null and as many elements behind it) and that what is written
 //! does not overlap what is read. Rust's references are such slices, the empty one too, and a `&mut` overlaps no other reference. In return the
 //! library is proved to touch nothing else, to keep no pointer and to end.
 
+use crate::declared::*;
 use crate::refusal::Refusal;
 
 /// How many numbers a record has.
@@ -14,49 +15,6 @@ pub const ENTRY: usize = 5;
 
 /// Places of a trail that are always enough.
 pub const TRAIL: usize = 5;
-
-extern "C" {
-    fn hods_open(file: *const u8, len: usize, record: *mut u64) -> u64;
-    fn hods_lookup(
-        file: *const u8,
-        len: usize,
-        record: *const u64,
-        name: *const u8,
-        name_len: usize,
-        trail: *mut u32,
-        places: usize,
-        answer: *mut u64,
-    ) -> u64;
-    fn hods_start(record: *const u64, cursor: *mut u64) -> u64;
-    fn hods_step(
-        file: *const u8,
-        len: usize,
-        record: *const u64,
-        cursor: *mut u64,
-        entry: *mut u64,
-    ) -> u64;
-    fn hods_chunk(
-        file: *const u8,
-        len: usize,
-        record: *const u64,
-        chunk: u64,
-        entries: *mut u64,
-        numbers: usize,
-        next: *mut u64,
-    ) -> u64;
-    fn hods_part(file: *const u8, len: usize, place: u64, length: u64) -> u64;
-    fn hods_write_head(
-        entries: *const u8,
-        len: usize,
-        density: u32,
-        time: u32,
-        language: u32,
-        content_length: u64,
-        out: *mut u8,
-        out_len: usize,
-        length: *mut u64,
-    ) -> u64;
-}
 
 /// What a function answered: true for 0, false for 255 (absent, at the end, too few places), else the refusal.
 pub type Told = Result<bool, Refusal>;
