@@ -100,6 +100,10 @@ encoded-some v h =
     let f : groups 8 (v / 128) ≤ 8 = groups-are 8 (v / 128) (omega arith) .few in
     (omega (arith, length-encoded v h), omega (arith, length-encoded v h))
 
+-- also where there is none
+pub encoded-short : (v : ℕ) → length (encoded v) ≤ 9
+encoded-short v = elim (decLt v (2 ^ 63)) [ yes h ↦ encoded-some v h .1 | no h ↦ omega (arith, ap length (encoded-none v (omega arith))) ]
+
 -- a turn of counting: n are counted, and w is left, below 128 ^ (9 - n)
 module _ (n w : ℕ) where
   pub room : n ≤ 9 → w < 128 ^ (9 - n) → 0 < w → n < 9

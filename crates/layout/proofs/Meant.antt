@@ -2,8 +2,8 @@
 -- Assumes nothing.
 use mathlib.Core.Path.{_≡_, refl, sym, ap, ap₂, subst, _∙_}
 use mathlib.Core.Bool.{Bool, true, false}
-use mathlib.Core.List.{List, [], _∷_, flatten}
-use Prim.Native.Nat.{ℕ, zero, suc, _+_, _-_, _^_, _≤_, _<_}
+use mathlib.Core.List.{List, [], flatten}
+use Prim.Native.Nat.{ℕ, _+_, _-_, _^_, _≤_, _<_}
 use native.Mathlib.Omega.{arith}
 use native.Mathlib.Decide.{ℕ-discrete}
 use lib.ListN.{length, getD}
@@ -18,7 +18,7 @@ use Rattle.header.specs.declared.Head.the-variants.{Good}
 use Rattle.book.specs.Book.{limitsOf, directoryOf}
 use Rattle.source.specs.Stored.{Stored}
 use Rattle.source.specs.Input.{given}
-use Rattle.source.proofs.All.{All, none, more, all-weaken, all-parts}
+use Rattle.source.proofs.All.{all-at, All, more, all-weaken, all-parts}
 use Rattle.source.proofs.Kept.{Kept, given-kept}
 use Rattle.pack.specs.Groups.{fits}
 use Rattle.pack.specs.Levels.{entrySize}
@@ -36,12 +36,6 @@ use Rattle.layout.proofs.Filled.{fit-room, shorts, leaves-fit, nodes-fi
 use Rattle.layout.proofs.Indexed.{indexed}
 use Rattle.layout.proofs.Places.{length-book}
 use Rattle.layout.proofs.Framing.{head-read, leaf-read, node-read}
-
--- element i of a list all of whose elements are alike
-pub all-at : {A : Type 0} {P : A → Type 0} (d : A) (l : List A) (i : ℕ) → All P l → i < length l → P (getD l i d)
-all-at d [] i none h = absurd (omega arith)
-all-at d (a ∷ l) zero (more p ps) h = p
-all-at d (a ∷ l) (suc i) (more p ps) h = all-at d l i ps (omega arith)
 
 -- ---- the numbers of the chunks before and behind have room in their fields
 

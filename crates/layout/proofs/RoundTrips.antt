@@ -25,7 +25,7 @@ use Rattle.listing.specs.Listing.{reportsIn}
 use Rattle.listing.specs.Whole.{wholeListing}
 use Rattle.source.specs.Stored.{Stored}
 use Rattle.source.specs.Input.{given}
-use Rattle.source.proofs.All.{All, none, more, all-parts}
+use Rattle.source.proofs.All.{all-at, All, none, more, all-parts}
 use Rattle.source.proofs.Kept.{Kept, given-kept}
 use Rattle.pack.specs.Groups.{fits}
 use Rattle.pack.specs.Levels.{entrySize}
@@ -37,7 +37,7 @@ use Rattle.layout.proofs.Numbers.{numbers}
 use Rattle.layout.proofs.Linking.{Links, links}
 use Rattle.layout.proofs.Taken.{takes-told}
 use Rattle.layout.proofs.Filled.{shorts}
-use Rattle.layout.proofs.Meant.{head-good, means, all-at}
+use Rattle.layout.proofs.Meant.{head-good, means}
 use Rattle.layout.proofs.Names.{There, names-there}
 
 -- ---- opening: no chunk is at fault

@@ -3,7 +3,7 @@
 use mathlib.Core.Path.{_≡_, refl, sym, ap, subst, _∙_}
 use mathlib.Core.Bool.{Bool, true, false, cond, _&&_, _||_}
 use mathlib.Core.List.{List, []}
-use Prim.Native.Nat.{ℕ, _+_, _-_, _^_, _≤_, _<_}
+use Prim.Native.Nat.{ℕ, _+_, _-_, _≤_, _<_}
 use native.Mathlib.Omega.{arith}
 use native.Mathlib.Decide.{decLt, decLe}
 use lib.ListN.{length, getD}
@@ -16,7 +16,6 @@ use Rattle.encint.specs.Encint.{encoded}
 use Rattle.encint.specs.declared.Number.{Number}
 use Rattle.encint.specs.declared.Number.the-variants.{Value}
 use Rattle.encint.proofs.Unique.{encint-unique}
-use Rattle.encint.proofs.Writing.{encoded-none, encoded-some}
 use Rattle.entries.specs.Entry.{withNumber, nameAt, listingAt, itemAt}
 use Rattle.entries.specs.declared.Place.{Place}
 use Rattle.entries.specs.declared.Item.{Item}
@@ -28,15 +27,6 @@ use Rattle.book.specs.Book.{limitsOf, chunkPlace, chunkBytes, directoryOf, repo
 use Rattle.book.specs.declared.Report.{Report}
 use Rattle.book.proofs.Laws.{chunk-inside, chunk-whole}
 use Rattle.list.specs.Frame.{sizeAhead, sizeBehind, entryBytes}
-
--- ---- an ENCINT is short
-
-pub size-small : (v : ℕ) → length (encoded v) ≤ 9
-size-small v =
-    elim (decLt v (2 ^ 63)) [
-      | yes h ↦ encoded-some v h .1
-      | no h ↦ (let z : length (encoded v) ≡ 0 = ap length (encoded-none v (omega arith)) in omega arith)
-    ]
 
 -- ---- the places of an entry, by the sizes of its numbers
 

@@ -1,17 +1,16 @@
 -- The sizes of entries: an entry that a step hands out has the size of the bytes that are written for it, and fits a chunk alone.
 -- Assumes nothing.
-use mathlib.Core.Path.{_≡_, ap}
+use mathlib.Core.Path.{_≡_}
 use mathlib.Core.Bool.{Bool, true, false}
 use mathlib.Core.List.{List}
-use Prim.Native.Nat.{ℕ, _+_, _*_, _^_, _≤_}
+use Prim.Native.Nat.{ℕ, _+_, _*_, _≤_}
 use native.Mathlib.Omega.{arith}
 use native.Mathlib.Nat.{zero-div}
-use native.Mathlib.Decide.{decLt}
 use lib.ListN.{length, length-append}
 use borrow.Author.Tests.{le-leb}
 use Rattle.fields.proofs.Parts.{length-part}
 use Rattle.encint.specs.Encint.{encoded}
-use Rattle.encint.proofs.Writing.{encoded-none, encoded-some}
+use Rattle.encint.proofs.Writing.{encoded-short}
 use Rattle.entries.specs.declared.Place.{Place}
 use Rattle.chunk.specs.Chunk.{headOf, quickCount}
 use Rattle.chunk.proofs.Frame.{head-small}
@@ -22,9 +21,6 @@ use Rattle.pack.specs.Groups.{fits}
 use Rattle.pack.specs.Levels.{entryBytes, entrySize}
 use Rattle.pack.specs.Fill.{rowSize}
 use Rattle.pack.proofs.Groups.{Single}
-
-pub encoded-short : (v : ℕ) → length (encoded v) ≤ 9
-encoded-short v = elim (decLt v (2 ^ 63)) [ yes h ↦ encoded-some v h .1 | no h ↦ omega (arith, ap length (encoded-none v (omega arith))) ]
 
 pub row-short : (k : Bool) (e : Place) → e .len ≤ 1024 → rowSize k e ≤ 1060
 unfolding rowSize

@@ -1,8 +1,9 @@
 -- What holds of every element of a list.
 -- Assumes nothing.
 use mathlib.Core.List.{List, [], _∷_, _++_, flatten}
-use Prim.Native.Nat.{ℕ, zero, suc}
-use lib.ListN.{take, drop}
+use Prim.Native.Nat.{ℕ, zero, suc, _<_}
+use native.Mathlib.Omega.{arith}
+use lib.ListN.{length, getD, take, drop}
 
 pub data All {A : Type 0} (P : A → Type 0) : List A → Type 0 where
   none : All P []
@@ -48,3 +49,9 @@ pub all-flatten : {A : Type 0} {P : A → Type 0} (gs : List (List A)) → All (
 unfolding flatten
 all-flatten [] none = none
 all-flatten (g ∷ gs) (more p ps) = all-append g (flatten gs) p (all-flatten gs ps)
+
+-- element i of a list all of whose elements are alike
+pub all-at : {A : Type 0} {P : A → Type 0} (d : A) (l : List A) (i : ℕ) → All P l → i < length l → P (getD l i d)
+all-at d [] i none h = absurd (omega arith)
+all-at d (a ∷ l) zero (more p ps) h = p
+all-at d (a ∷ l) (suc i) (more p ps) h = all-at d l i ps (omega arith)

@@ -4,13 +4,14 @@ use Prim.Native.Nat.{_+_, _≤_}
 use native.Mathlib.Omega.{arith}
 use denote.Ref.{now}
 use Rattle.list.specs.Frame.{sizeAhead, sizeBehind}
-use Rattle.list.proofs.Own.{size-small, no-part, early-bytes, long-bytes, some-bytes}
+use Rattle.encint.proofs.Writing.{encoded-short}
+use Rattle.list.proofs.Own.{no-part, early-bytes, long-bytes, some-bytes}
 use Rattle.list.proofs.entry_bytes.Statement.{statement}
 use Rattle.list.proofs.entry_bytes.Tie as tie
 
 -- what the code calls ahead and behind, and that they are small
 ahead-is : (c : tie.After-size) → let r = c .before .before .args .r in (c .size .result ≡ sizeAhead r) × (c .size .result ≤ 9)
-ahead-is c = (c .size .ensures, omega (arith, c .size .ensures, size-small (c .before .before .args .r .length)))
+ahead-is c = (c .size .ensures, omega (arith, c .size .ensures, encoded-short (c .before .before .args .r .length)))
 
 behind-is : (c : tie.After-size4) → let r = c .before .before .before .before .before .args .r in
     (c .before .before .size2 .result + c .before .size3 .result + c .size4 .result ≡ sizeBehind r) × (c .before .before .size2 .result + c .before .size3 .result + c .size4 .result ≤ 27)
@@ -19,7 +20,7 @@ behind-is c =
     let a = c .before .before .size2 .ensures in
     let b = c .before .size3 .ensures in
     let d = c .size4 .ensures in
-    (rw (a, b, d), omega (arith, size-small (r .section), size-small (r .offset), size-small (r .size)))
+    (rw (a, b, d), omega (arith, encoded-short (r .section), encoded-short (r .offset), encoded-short (r .size)))
 
 size-requires : tie.Need-size-requires
 size-requires c κs = search needs
@@ -31,7 +32,7 @@ size-requires-3 : tie.Need-size-requires-3
 size-requires-3 c κs = search needs
 
 add-behind : tie.Need-add-behind
-add-behind c = let r = c .before .before .before .before .args .r in omega (arith, c .before .size2 .ensures, c .size3 .ensures, size-small (r .section), size-small (r .offset))
+add-behind c = let r = c .before .before .before .before .args .r in omega (arith, c .before .size2 .ensures, c .size3 .ensures, encoded-short (r .section), encoded-short (r .offset))
 
 size-requires-4 : tie.Need-size-requires-4
 size-requires-4 c κs = search needs
