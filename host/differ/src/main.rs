@@ -5,6 +5,7 @@ mod compare;
 mod coverage;
 mod features;
 mod lent;
+#[path = "../../hodsplinter/src/raw.rs"]
 mod library;
 mod program;
 mod run;

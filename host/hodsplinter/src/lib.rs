@@ -17,13 +17,13 @@
 #![warn(missing_docs)]
 
 mod book;
-mod declared;
 mod encint;
 mod entry;
 mod listing;
+#[allow(unsafe_code)]
+mod raw;
 mod record;
 mod refusal;
-#[allow(unsafe_code)]
 mod sys;
 mod writer;
 

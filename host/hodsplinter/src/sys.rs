@@ -1,10 +1,6 @@
-//! The C functions of `include/hodsplinter.h`, each behind a function that lends it slices. All unsafe code of the wrapper is here.
-//!
-//! What the C side asks of its caller is that slices are real (a pointer that is not null and as many elements behind it) and that what is written
-//! does not overlap what is read. Rust's references are such slices, the empty one too, and a `&mut` overlaps no other reference. In return the
-//! library is proved to touch nothing else, to keep no pointer and to end.
+//! The C functions with their answers: done, or 255, or the refusal.
 
-use crate::declared::*;
+use crate::raw;
 use crate::refusal::Refusal;
 
 /// How many numbers a record has.
@@ -28,8 +24,7 @@ fn told(code: u64) -> Told {
 }
 
 pub fn open(file: &[u8], record: &mut [u64; RECORD]) -> Told {
-    // SAFETY: real slices that do not overlap, as said at the top.
-    told(unsafe { hods_open(file.as_ptr(), file.len(), record.as_mut_ptr()) })
+    told(raw::open(file, record))
 }
 
 pub fn lookup(
@@ -39,24 +34,11 @@ pub fn lookup(
     trail: &mut [u32; TRAIL],
     answer: &mut [u64; 6],
 ) -> Told {
-    // SAFETY: real slices, and neither trail nor answer overlaps another.
-    told(unsafe {
-        hods_lookup(
-            file.as_ptr(),
-            file.len(),
-            record.as_ptr(),
-            name.as_ptr(),
-            name.len(),
-            trail.as_mut_ptr(),
-            trail.len(),
-            answer.as_mut_ptr(),
-        )
-    })
+    told(raw::lookup(file, record, name, trail, answer))
 }
 
 pub fn start(record: &[u64; RECORD], cursor: &mut [u64; 2]) -> Told {
-    // SAFETY: real arrays that do not overlap.
-    told(unsafe { hods_start(record.as_ptr(), cursor.as_mut_ptr()) })
+    told(raw::start(record, cursor))
 }
 
 pub fn step(
@@ -65,16 +47,7 @@ pub fn step(
     cursor: &mut [u64; 2],
     entry: &mut [u64; ENTRY],
 ) -> Told {
-    // SAFETY: real slices, and neither cursor nor entry overlaps another.
-    told(unsafe {
-        hods_step(
-            file.as_ptr(),
-            file.len(),
-            record.as_ptr(),
-            cursor.as_mut_ptr(),
-            entry.as_mut_ptr(),
-        )
-    })
+    told(raw::step(file, record, cursor, entry))
 }
 
 pub fn chunk(
@@ -84,23 +57,11 @@ pub fn chunk(
     entries: &mut [u64],
     next: &mut [u64; 2],
 ) -> Told {
-    // SAFETY: real slices, and neither entries nor next overlaps another.
-    told(unsafe {
-        hods_chunk(
-            file.as_ptr(),
-            file.len(),
-            record.as_ptr(),
-            chunk,
-            entries.as_mut_ptr(),
-            entries.len(),
-            next.as_mut_ptr(),
-        )
-    })
+    told(raw::chunk(file, record, chunk, entries, next))
 }
 
 pub fn part(file: &[u8], place: u64, length: u64) -> u64 {
-    // SAFETY: a real slice; nothing is written.
-    unsafe { hods_part(file.as_ptr(), file.len(), place, length) }
+    raw::part(file, place, length)
 }
 
 pub fn write_head(
@@ -111,18 +72,13 @@ pub fn write_head(
     length: &mut [u64; 1],
 ) -> Told {
     let [density, time, language] = numbers;
-    // SAFETY: real slices, and neither out nor length overlaps another.
-    told(unsafe {
-        hods_write_head(
-            entries.as_ptr(),
-            entries.len(),
-            density,
-            time,
-            language,
-            content_length,
-            out.as_mut_ptr(),
-            out.len(),
-            length.as_mut_ptr(),
-        )
-    })
+    told(raw::write_head(
+        entries,
+        density,
+        time,
+        language,
+        content_length,
+        out,
+        length,
+    ))
 }

@@ -1,12 +1,55 @@
-//! The static library as include/hodsplinter.h declares it. All that is unsafe is in this module.
+//! The C functions of `include/hodsplinter.h`, each behind a function that lends it slices and returns its number. The wrapper and `differ` share this file: it has all
+//! unsafe code of the workspace.
+//!
+//! What the C side asks of its caller is that slices are real (a pointer that is not null and as many elements behind it) and that what is written
+//! does not overlap what is read. Rust's references are such slices, the empty one too, and a `&mut` overlaps no other reference. In return the
+//! library is proved to touch nothing else, to keep no pointer and to end.
 
-#[path = "../../hodsplinter/src/declared.rs"]
-mod declared;
+extern "C" {
+    fn hods_open(file: *const u8, len: usize, record: *mut u64) -> u64;
+    fn hods_lookup(
+        file: *const u8,
+        len: usize,
+        record: *const u64,
+        name: *const u8,
+        name_len: usize,
+        trail: *mut u32,
+        places: usize,
+        answer: *mut u64,
+    ) -> u64;
+    fn hods_start(record: *const u64, cursor: *mut u64) -> u64;
+    fn hods_step(
+        file: *const u8,
+        len: usize,
+        record: *const u64,
+        cursor: *mut u64,
+        entry: *mut u64,
+    ) -> u64;
+    fn hods_chunk(
+        file: *const u8,
+        len: usize,
+        record: *const u64,
+        chunk: u64,
+        entries: *mut u64,
+        numbers: usize,
+        next: *mut u64,
+    ) -> u64;
+    fn hods_part(file: *const u8, len: usize, place: u64, length: u64) -> u64;
+    fn hods_write_head(
+        entries: *const u8,
+        len: usize,
+        density: u32,
+        time: u32,
+        language: u32,
+        content_length: u64,
+        out: *mut u8,
+        out_len: usize,
+        length: *mut u64,
+    ) -> u64;
+}
 
-use declared::*;
-
-// Safe throughout: each pointer comes from a slice or array of the length that is passed or that
-// the header fixes, and what is written is borrowed apart from what is read.
+// SAFETY, of every function below: each pointer comes from a slice or array of the length that is passed or that the header fixes, and what is written is
+// borrowed apart from what is read.
 
 pub fn open(file: &[u8], record: &mut [u64; 11]) -> u64 {
     unsafe { hods_open(file.as_ptr(), file.len(), record.as_mut_ptr()) }
