@@ -1,14 +1,14 @@
--- A whole chunk, from what it takes: its entries are there, and with their quick words they have room (`extent-told`); then it is a chunk
--- of those entries (`chunk-written`).
+-- A whole chunk, from what it takes: its entries are there, and with their quick words they have room (`extent-told`); with a header and
+-- a count they are a chunk (`chunk-written`).
 -- Assumes nothing.
-use mathlib.Core.Path.{_≡_, sym, ap, subst, _∙_}
+use mathlib.Core.Path.{_≡_, sym, ap, ap₂, subst, _∙_}
 use mathlib.Core.Bool.{Bool, true}
-use mathlib.Core.List.{List, _++_}
+use mathlib.Core.List.{List, [], _++_, append-assoc, append-nil}
 use Prim.Native.Nat.{ℕ, _+_, _-_, _*_, _≤_, _<_}
 use native.Mathlib.Omega.{arith}
 use native.Mathlib.Nat.{zero-div, zero-add}
 use lib.ListN.{length, take, replicate, length-append, length-replicate, length-map}
-use lib.Seq.{take-at, length-take-le}
+use lib.Seq.{sets, length-take-le}
 use borrow.Author.Tests.{le-leb}
 use Rattle.fields.specs.Le.{bytes}
 use Rattle.fields.proofs.Le.{length-bytes}
@@ -25,10 +25,51 @@ use Rattle.pack.specs.declared.Extent.{Extent}
 use Rattle.pack.proofs.Groups.{sizes, taken-le, taken-fits, sizes-long}
 use Rattle.pack.proofs.Sizes.{row-long}
 use Rattle.pack.proofs.Filling.{Extends, extent-is, fits-small}
-use Rattle.compose.specs.NewChunk.{chunkHead, runBytes, tailBytes, entriesEnd, newChunk}
-use Rattle.compose.specs.Steps.{groupFrom, filledFrom, Composable}
+use Rattle.compose.specs.NewChunk.{chunkHead, runBytes, quickWords, tailBytes, entriesEnd, newChunk}
+use Rattle.compose.specs.Steps.{groupFrom, between, entriesOnly}
 use Rattle.compose.proofs.Composing.{run-sizes, length-quick}
 use Rattle.compose.proofs.Entries.{length-head}
+use Rattle.compose.proofs.Zeros.{into-front}
+
+-- ---- header and count take the place of zeros
+
+module _ (k : Bool) (n : ℕ) (es : List Stored) (room : entriesEnd k es + (2 * quickCount n (length es) + 2) ≤ 4096) where
+  -- what stands between them
+  body : List ℕ
+  body = runBytes k es ++ (replicate (4094 - 2 * quickCount n (length es) - entriesEnd k es) 0 ++ quickWords k n es (quickCount n (length es)))
+
+  length-body : headOf k + length body ≡ 4094
+  unfolding body
+  length-body = simp (length-append, length-replicate, length-quick k n es (quickCount n (length es))) (omega arith)
+
+  between-body : (hd lt : List ℕ) → between k n hd lt es ≡ hd ++ (body ++ lt)
+  unfolding between body
+  between-body hd lt = simp append-assoc
+
+  in-place : (hd lt : List ℕ) → length hd ≡ headOf k → length lt ≡ 2 → sets (sets (entriesOnly k n es) 0 hd) 4094 lt ≡ between k n hd lt es
+  in-place hd lt lh ll =
+      let z : List ℕ = replicate 2 0 in
+      let o : headOf k - length hd ≡ 0 = omega arith in
+      let q : 2 - length lt ≡ 0 = omega arith in
+      let p : 4094 ≡ length (hd ++ body) = omega (arith, length-body, length-append hd body) in
+      ap (λ (l : List ℕ). sets (sets l 0 hd) 4094 lt) (between-body (replicate (headOf k) 0) z)
+      ∙ ap (λ (l : List ℕ). sets l 4094 lt) (into-front [] (headOf k) (body ++ z) hd (omega arith))
+      ∙ ap (λ (m : ℕ). sets (hd ++ (replicate m 0 ++ (body ++ z))) 4094 lt) o
+      ∙ ap (λ (l : List ℕ). sets l 4094 lt) (sym (append-assoc hd body z))
+      ∙ ap (λ (m : ℕ). sets ((hd ++ body) ++ z) m lt) p
+      ∙ into-front (hd ++ body) 2 [] lt (omega arith)
+      ∙ ap (λ (m : ℕ). (hd ++ body) ++ (lt ++ (replicate m 0 ++ []))) q
+      ∙ ap (λ (l : List ℕ). (hd ++ body) ++ l) (append-nil lt)
+      ∙ append-assoc hd body lt
+      ∙ sym (between-body hd lt)
+
+  framed : (prev next : ℕ)
+      → sets (sets (entriesOnly k n es) 0 (chunkHead k (4096 - entriesEnd k es) prev next)) 4094 (bytes 2 (length es)) ≡ newChunk k n prev next es
+  unfolding newChunk tailBytes between
+  framed prev next =
+      in-place (chunkHead k (4096 - entriesEnd k es) prev next) (bytes 2 (length es)) (length-head k (4096 - entriesEnd k es) prev next) (length-bytes 2 (length es))
+
+-- ---- what a chunk takes
 
 module _ (content : ℕ) (s starts : List ℕ) (k : Bool) (at n : ℕ) (f : Extent) (is : f ≡ extentFrom k n 0 0 at (rowsFrom content s starts k at)) where
   abbrev rows : List Place
@@ -70,34 +111,23 @@ module _ (content : ℕ) (s starts : List ℕ) (k : Bool) (at n : ℕ) (f : Exte
         few = omega (arith, length-take-le m rows tl);
       }
 
-  module _ (prev next : ℕ) (out : List ℕ) (whole : length out ≡ 4096)
-      (blank : out ≡ chunkHead k (4096 - (headOf k + f .bytes)) prev next ++ (replicate (4094 - headOf k) 0 ++ bytes 2 (f .count))) where
-    hd : List ℕ
-    hd = chunkHead k (4096 - (headOf k + f .bytes)) prev next
+  group-length : length (groupFrom content s starts k at (f .count)) ≡ f .count
+  group-length = length-map (take (f .count) rows) (storedOf s) ∙ length-take-le (f .count) rows (extent-told .there)
 
-    head-is : take (headOf k) out ≡ hd
-    unfolding hd
-    head-is = ap (take (headOf k)) blank ∙ take-at hd (replicate (4094 - headOf k) 0 ++ bytes 2 (f .count)) (headOf k) (length-head k (4096 - (headOf k + f .bytes)) prev next)
+  group-room : entriesEnd k (groupFrom content s starts k at (f .count)) + (2 * quickCount n (length (groupFrom content s starts k at (f .count))) + 2) ≤ 4096
+  group-room = let t = extent-told in omega (arith, t .room, t .bytes, ap (λ (j : ℕ). quickCount n j) group-length)
 
-    pub composable : Composable content s starts k at (f .count) n out
-    unfolding hd
-    composable =
-        let t = extent-told in
-        record {
-          whole = whole;
-          blank = blank ∙ ap (λ (l : List ℕ). l ++ (replicate (4094 - headOf k) 0 ++ bytes 2 (f .count))) (sym head-is);
-          there = t .there;
-          room = omega (arith, t .room, t .bytes);
-        }
-
-    pub chunk-written : (o : List ℕ) → o ≡ filledFrom content s starts k at (f .count) n out → o ≡ newChunk k n prev next (groupFrom content s starts k at (f .count))
-    unfolding filledFrom newChunk hd
-    chunk-written o w =
-        let g = groupFrom content s starts k at (f .count) in
-        let t = extent-told in
-        w
-        ∙ ap (λ (l : List ℕ). l ++ (runBytes k g ++ tailBytes k n (entriesEnd k g) g)) head-is
-        ∙ ap (λ (b : ℕ). chunkHead k (4096 - (headOf k + b)) prev next ++ (runBytes k g ++ tailBytes k n (entriesEnd k g) g)) (t .bytes)
+  -- header and count on the entries that were taken
+  pub chunk-written : (prev next : ℕ) (out o : List ℕ) → out ≡ entriesOnly k n (groupFrom content s starts k at (f .count))
+      → o ≡ sets (sets out 0 (chunkHead k (4096 - (headOf k + f .bytes)) prev next)) 4094 (bytes 2 (f .count))
+      → o ≡ newChunk k n prev next (groupFrom content s starts k at (f .count))
+  chunk-written prev next out o is₁ w =
+      let g = groupFrom content s starts k at (f .count) in
+      let t = extent-told in
+      w
+      ∙ ap (λ (x : List ℕ). sets (sets x 0 (chunkHead k (4096 - (headOf k + f .bytes)) prev next)) 4094 (bytes 2 (f .count))) is₁
+      ∙ ap₂ (λ (b c : ℕ). sets (sets (entriesOnly k n g) 0 (chunkHead k (4096 - (headOf k + b)) prev next)) 4094 (bytes 2 c)) (t .bytes) (sym group-length)
+      ∙ framed k n g group-room prev next
 
 -- ---- the length of a chunk
 
@@ -111,8 +141,4 @@ length-chunk k n prev next es h =
 pub length-extent : (content : ℕ) (s starts : List ℕ) (k : Bool) (at n : ℕ) (f : Extent) → f ≡ extentFrom k n 0 0 at (rowsFrom content s starts k at)
     → (prev next : ℕ) → length (newChunk k n prev next (groupFrom content s starts k at (f .count))) ≡ 4096
 length-extent content s starts k at n f is prev next =
-    let t = extent-told content s starts k at n f is in
-    let rows = rowsFrom content s starts k at in
-    let g = groupFrom content s starts k at (f .count) in
-    let l : length g ≡ f .count = length-map (take (f .count) rows) (storedOf s) ∙ length-take-le (f .count) rows (t .there) in
-    length-chunk k n prev next g (omega (arith, t .room, t .bytes, ap (λ (j : ℕ). quickCount n j) l))
+    length-chunk k n prev next (groupFrom content s starts k at (f .count)) (group-room content s starts k at n f is)

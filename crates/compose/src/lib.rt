@@ -16,11 +16,11 @@ ghost use Rattle.source.specs.Source.{rowsFrom};
 ghost use Rattle.pack.specs.Levels.{entryBytes};
 ghost use Rattle.pack.specs.Fill.{rowSize, extentFrom};
 ghost use Rattle.compose.specs.NewChunk.{wordBytes, chunkHead, newChunk};
-ghost use Rattle.compose.specs.Steps.{markBytes, Composable, filledFrom};
+ghost use Rattle.compose.specs.Steps.{markBytes, groupFrom, entriesOnly};
 use entries::Place;
 use pack::Extent;
+use pack::Fit;
 use source::Cursor;
-use source::Taken;
 
 // Writes 32-bit numbers one behind another at `at`.
 fn write_words(out: &mut [u8], at: usize, words: &[u32])
@@ -82,26 +82,27 @@ fn put_name(out: &mut [u8], at: usize, input: &[u8], start: usize, n: usize) -> 
     from + n
 }
 
-// Writes the numbers of a listing entry, and returns the place behind them.
-fn put_numbers(out: &mut [u8], at: usize, section: u64, offset: u64, size: u64) -> usize
+// Writes the numbers of a listing entry.
+fn put_numbers(out: &mut [u8], at: usize, section: u64, offset: u64, size: u64)
     requires { ⌜ at + length (encoded section) + length (encoded offset) + length (encoded size) ≤ length (now out) ⌝ }
-    ensures { λ r. ⌜ (r ≡ at + length (encoded section) + length (encoded offset) + length (encoded size)) × (now (out .exit) ≡ sets (now (out .entry)) at (encoded section ++ (encoded offset ++ encoded size))) ⌝ }
+    ensures { λ _. ⌜ now (out .exit) ≡ sets (now (out .entry)) at (encoded section ++ (encoded offset ++ encoded size)) ⌝ }
 {
     let from = at + encint::write(out, at, section);
     let then = from + encint::write(out, from, offset);
-    then + encint::write(out, then, size)
+    encint::write(out, then, size);
 }
 
-// Writes an entry from its numbers, and returns the place behind it.
-fn put_entry(out: &mut [u8], at: usize, input: &[u8], listing: bool, e: Place) -> usize
+// Writes an entry from its numbers.
+fn put_entry(out: &mut [u8], at: usize, input: &[u8], listing: bool, e: Place)
     requires { ⌜ (at + rowSize listing e ≤ length (now out)) × (e .start + e .len ≤ length (now input)) ⌝ }
-    ensures { λ r. ⌜ (r ≡ at + rowSize listing e) × (now (out .exit) ≡ sets (now (out .entry)) at (entryBytes listing (storedOf (now (input .entry)) e))) ⌝ }
+    ensures { λ _. ⌜ now (out .exit) ≡ sets (now (out .entry)) at (entryBytes listing (storedOf (now (input .entry)) e)) ⌝ }
 {
     let from = put_name(out, at, input, e.start, e.len);
     if listing {
-        return put_numbers(out, from, e.section, e.offset, e.size);
+        put_numbers(out, from, e.section, e.offset, e.size);
+        return;
     }
-    from + encint::write(out, from, e.child)
+    encint::write(out, from, e.child);
 }
 
 // Writes the quick word of entry i, which stands `offset` bytes behind the first, if it has one.
@@ -121,32 +122,35 @@ fn mark(out: &mut [u8], i: usize, n: usize, offset: usize)
     fields::put16(out, 4094 - 2 * (i / n), offset as u16);
 }
 
-// Writes the entries of a chunk from a cursor on, with their quick words, behind its header.
+// Writes the entries from a cursor on, as many as fit, with their quick words into a chunk of zeros. Returns what it took.
 fn put_entries(
     out: &mut [u8],
     input: &[u8],
     starts: &[usize],
     content: u64,
     from: Cursor,
-    count: usize,
     n: usize,
-)
-    requires { ⌜ Composable content (now input) (now starts) (from .listing) (from .at) count n (now out) ⌝ }
-    ensures { λ _. ⌜ now (out .exit) ≡ filledFrom content (now (input .entry)) (now (starts .entry)) (from .listing) (from .at) count n (now (out .entry)) ⌝ }
+) -> Extent
+    requires { ⌜ (length (now out) ≡ 4096) × (now out ≡ replicate (length (now out)) 0) ⌝ }
+    ensures { λ r. ⌜ (r ≡ extentFrom (from .listing) n 0 0 (from .at) (rowsFrom content (now (input .entry)) (now (starts .entry)) (from .listing) (from .at))) × (now (out .exit) ≡ entriesOnly (from .listing) n (groupFrom content (now (input .entry)) (now (starts .entry)) (from .listing) (from .at) (r .count))) ⌝ }
 {
     let first = chunk::head(from.listing);
-    let mut at = first;
-    let mut c = from;
-    let mut i: usize = 0;
-    while i < count {
-        let Taken::Entry(e, next) = source::step(input, starts, content, c) else {
-            return;
+    let mut f = Extent {
+        count: 0,
+        bytes: 0,
+        at: from.at,
+    };
+    loop {
+        let Fit::Entry(e, bytes) = pack::next_fit(input, starts, content, from.listing, n, f) else {
+            return f;
         };
-        let end = put_entry(out, at, input, c.listing, e);
-        mark(out, i, n, at - first);
-        at = end;
-        c = next;
-        i += 1;
+        put_entry(out, first + f.bytes, input, from.listing, e);
+        mark(out, f.count, n, f.bytes);
+        f = Extent {
+            count: f.count + 1,
+            bytes,
+            at: e.next,
+        };
     }
 }
 
@@ -164,12 +168,11 @@ fn put_head(out: &mut [u8], listing: bool, tail: u32, prev: u32, next: u32)
     put_words(out, 0, &words);
 }
 
-// Writes a chunk of `count` entries of `used` bytes, without the entries and their quick words.
-fn blank(out: &mut [u8], listing: bool, used: usize, count: usize, prev: u32, next: u32)
+// Writes the header and the count of a chunk of `count` entries of `used` bytes.
+fn put_frame(out: &mut [u8], listing: bool, used: usize, count: usize, prev: u32, next: u32)
     requires { ⌜ (length (now out) ≡ 4096) × (headOf listing + used ≤ 4096) × (count < 65536) ⌝ }
-    ensures { λ _. ⌜ now (out .exit) ≡ chunkHead listing (4096 - (headOf listing + used)) prev next ++ (replicate (4094 - headOf listing) 0 ++ bytes 2 count) ⌝ }
+    ensures { λ _. ⌜ now (out .exit) ≡ sets (sets (now (out .entry)) 0 (chunkHead listing (4096 - (headOf listing + used)) prev next)) 4094 (bytes 2 count) ⌝ }
 {
-    clear(out);
     put_head(
         out,
         listing,
@@ -195,11 +198,11 @@ pub fn write_chunk(
     ensures answer { λ r. ⌜ r ≡ extentFrom (from .listing) n 0 0 (from .at) (rowsFrom content (now (input .entry)) (now (starts .entry)) (from .listing) (from .at)) ⌝ }
     ensures written { λ r. ⌜ now (out .exit) ≡ cond (eqb (length (now (out .entry))) 4096) (newChunk (from .listing) n prev next (map (storedOf (now (input .entry))) (take (r .count) (rowsFrom content (now (input .entry)) (now (starts .entry)) (from .listing) (from .at))))) (now (out .entry)) ⌝ }
 {
-    let f = pack::fill(input, starts, content, from, n);
     if out.len() != 4096 {
-        return f;
+        return pack::fill(input, starts, content, from, n);
     }
-    blank(out, from.listing, f.bytes, f.count, prev, next);
-    put_entries(out, input, starts, content, from, f.count, n);
+    clear(out);
+    let f = put_entries(out, input, starts, content, from, n);
+    put_frame(out, from.listing, f.bytes, f.count, prev, next);
     f
 }

@@ -2,7 +2,7 @@
 ghost use mathlib.Core.Path.{_≡_};
 ghost use mathlib.Core.Bool.{cond};
 ghost use mathlib.Core.List.{_++_};
-ghost use Prim.Native.Nat.{_+_, _≤_};
+ghost use Prim.Native.Nat.{_+_, _≤_, min};
 ghost use lib.ListN.{length, take, drop};
 ghost use Rattle.fields.specs.Part.{inside};
 ghost use Rattle.fields.specs.Put.{put};
@@ -14,21 +14,30 @@ pub enum Number {
     Bad,
 }
 
+// Where a number at `at` ends at the latest: nine bytes on, or at the end of a slice of `len` bytes.
+fn reach(len: usize, at: usize) -> usize
+    ensures { λ r. ⌜ r ≡ min len (at + 9) ⌝ }
+{
+    if len <= at {
+        return len;
+    }
+    if len - at < 9 {
+        return len;
+    }
+    at + 9
+}
+
 // The number at `at`, whatever its first byte is.
 fn groups_at(s: &[u8], at: usize) -> Number
     ensures { λ r. ⌜ r ≡ rest 9 0 at (drop at (now (s .entry))) ⌝ }
 {
+    let end = reach(s.len(), at);
     let mut v: u64 = 0;
     let mut i = at;
-    let mut n: usize = 9;
-    while 0 < n {
-        if s.len() <= i {
-            return Number::Bad;
-        }
+    while i < end {
         let b = s[i];
         v = v * 128 + (b % 128) as u64;
         i += 1;
-        n -= 1;
         if b < 128 {
             return Number::Value(v, i);
         }

@@ -49,6 +49,7 @@ name-next s at n p e =
 
 pub record Inside (s : List ℕ) (at : ℕ) (e : Place) : Type 0 where
   pub same : e .at ≡ at
+  pub read : nameAt s at ≡ Value (e .len) (e .start)
   pub name : e .start + e .len ≤ length s
   pub some : 0 < e .len
   pub moves : at < e .next
@@ -73,7 +74,7 @@ listing-inside content s at e q =
     let hd = encint-next s (b .1) (d .2) in
     inside-of s at (leb (a .0) 65535 && (ltb 0 (a .0) || leb (b .0 + d .0) content))
     (record { at = at; start = n .1; len = n .0; section = a .0; offset = b .0; size = d .0; child = 0; next = d .1 }) e (d .3)
-    (record { same = refl; name = omega arith; some = omega arith; moves = omega arith; ends = omega arith })
+    (record { same = refl; read = n .2; name = omega arith; some = omega arith; moves = omega arith; ends = omega arith })
 
 index-inside : (count : ℕ) (s : List ℕ) (at : ℕ) (e : Place) → indexAt count s at ≡ Good e → Inside s at e
 unfolding indexAt
@@ -84,7 +85,7 @@ index-inside count s at e q =
     let ha = encint-next s (n .1 + n .0) (a .2) in
     inside-of s at (ltb (a .0) count)
     (record { at = at; start = n .1; len = n .0; section = 0; offset = 0; size = 0; child = a .0; next = a .1 }) e (a .3)
-    (record { same = refl; name = omega arith; some = omega arith; moves = omega arith; ends = omega arith })
+    (record { same = refl; read = n .2; name = omega arith; some = omega arith; moves = omega arith; ends = omega arith })
 
 pub item-inside : (limits : Limits) (k : Bool) (s : List ℕ) (at : ℕ) (e : Place) → itemAt limits k s at ≡ Good e → Inside s at e
 unfolding itemAt

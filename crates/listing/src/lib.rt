@@ -125,7 +125,7 @@ fn put_entries(file: &[u8], book: Record, chunk: u64, out: &mut [u64])
     let mut at: usize = 20;
     let mut i: usize = 0;
     while i < total {
-        let Item::Good(e) = entries::item_at(c, limits, true, at) else {
+        let Item::Good(e) = entries::listing_at(c, at, limits.content) else {
             return;
         };
         put_report(out, 5 * i, book::report_of(file, book, chunk, e));

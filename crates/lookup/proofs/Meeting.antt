@@ -1,29 +1,19 @@
--- What the answer on a chunk that is met tells of its kind, and that what is found in a listing chunk is reported as its entry says.
+-- What the answer on a chunk that is met tells of its kind.
 -- Assumes nothing.
 use mathlib.Core.Path.{_≡_, refl, sym}
 use mathlib.Core.Logic.{inl, inr}
 use mathlib.Core.Bool.{Bool, true, false, cond, not, _&&_}
 use mathlib.Core.List.{List, [], _∷_}
-use Prim.Native.Nat.{ℕ, zero, suc, _+_, _≤_}
+use Prim.Native.Nat.{ℕ}
 use native.Mathlib.Omega.{arith}
-use lib.ListN.{length}
 use lib.Dec.{ltb}
 use types.Run.{OneOf}
 use denote.Enum.Declared.{tagOf}
-use Rattle.names.specs.Names.{matches}
-use Rattle.entries.specs.Entry.{itemAt, nameOf}
-use Rattle.entries.specs.declared.Limits.{Limits}
-use Rattle.entries.specs.declared.Place.{Place}
-use Rattle.entries.specs.declared.Item.{Item}
-use Rattle.entries.specs.declared.Item.the-variants.{Good, Bad}
-use Rattle.entries.proofs.Laws.{item-inside}
-use Rattle.chunk.specs.Chunk.{Parsed, bad, listing, index, withItem, isKind}
+use Rattle.chunk.specs.Chunk.{Parsed, bad, listing, index, isKind}
 use Rattle.chunk.specs.Answer.{chunkOf}
 use Rattle.chunk.specs.declared.Chunk.{Chunk}
 use Rattle.chunk.specs.declared.Chunk.the-variants.{Refused, Listing, Index}
 use Rattle.chunk.proofs.Chunk as chunk-type
-use Rattle.seek.specs.Seek.{findAt}
-use Rattle.seek.specs.declared.Hit.the-variants.{At, Nothing}
 use Rattle.header.specs.declared.Record.{Record}
 use Rattle.tree.specs.Shape.{listingChunk, indexChunk}
 use Rattle.book.specs.Book.{directoryOf, shapeOf, metChunk}
@@ -64,20 +54,3 @@ pub not-index : (x : Chunk) → OneOf (0 ∷ 1 ∷ []) (tagOf chunk-type.the-typ
 not-index (Refused n) h = refl
 not-index (Listing p n) h = refl
 not-index Index h = elim h [ inl e ↦ absurd (omega arith) | inr e ↦ absurd (omega arith) ]
-
--- ---- what is found lies inside
-
-pub find-inside : (limits : Limits) (s name : List ℕ) (e : Place) (n at : ℕ) → findAt limits s name n at ≡ At e → e .start + e .len ≤ length s
-unfolding findAt
-find-inside limits s name e zero at q = let z : _≡_ {A = ℕ} 0 1 = cc in absurd (omega arith)
-find-inside limits s name e (suc n) at q = go (itemAt limits true s at) refl (λ p. find-inside limits s name e n p) q
-  where
-    here : (t : Bool) (x : Place) → x .start + x .len ≤ length s → (findAt limits s name n (x .next) ≡ At e → e .start + e .len ≤ length s)
-        → cond t (At x) (findAt limits s name n (x .next)) ≡ At e → e .start + e .len ≤ length s
-    here true x l f q = let z : x ≡ e = cc in rw (← z) l
-    here false x l f q = f q
-
-    go : (i : Item) → itemAt limits true s at ≡ i → ((p : ℕ) → findAt limits s name n p ≡ At e → e .start + e .len ≤ length s)
-        → withItem i Nothing (λ x. cond (matches name (nameOf s x)) (At x) (findAt limits s name n (x .next))) ≡ At e → e .start + e .len ≤ length s
-    go Bad g f q = let z : _≡_ {A = ℕ} 0 1 = cc in absurd (omega arith)
-    go (Good x) g f q = here (matches name (nameOf s x)) x (item-inside limits true s at x g .name) (f (x .next)) q

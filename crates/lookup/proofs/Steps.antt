@@ -6,11 +6,12 @@ use mathlib.Core.List.{List}
 use Prim.Native.Nat.{ℕ}
 use native.Mathlib.Omega.{arith}
 use Rattle.entries.specs.declared.Place.{Place}
-use Rattle.chunk.specs.Chunk.{entriesIn, isKind, countOf}
+use Rattle.chunk.specs.Chunk.{entriesIn, isKind}
 use Rattle.seek.specs.Seek.{lookup, soughtOf, findIn, chooseIn}
 use Rattle.seek.specs.declared.Hit.{Hit}
 use Rattle.seek.specs.declared.Hit.the-variants.{At, Nothing}
 use Rattle.seek.proofs.Good.{find-good, choose-good}
+use Rattle.seek.proofs.Steps.{find-inside}
 use Rattle.header.specs.declared.Record.{Record}
 use Rattle.tree.specs.Shape.{listingChunk, indexChunk}
 use Rattle.tree.specs.Descent.{childFor, outcomeFrom}
@@ -21,7 +22,6 @@ use Rattle.lookup.specs.Lookup.{refusal, answerOf}
 use Rattle.lookup.specs.Step.{wayAt, outcomeAt}
 use Rattle.lookup.specs.declared.Answer.the-variants.{Found, Absent}
 use Rattle.lookup.specs.declared.Way.the-variants.{Down, Ends, Barred}
-use Rattle.lookup.proofs.Meeting.{find-inside}
 
 -- ---- a listing chunk
 
@@ -43,7 +43,7 @@ module _ (s : List ℕ) (book : Record) (name : List ℕ) (c n : ℕ) where
     unfolding outcomeFrom
     listing-found e q =
         let w = chunk-whole s book c true kind in
-        let i = find-inside (limitsOf s book) (chunkBytes s book c) name e (countOf (chunkBytes s book c)) 20 q in
+        let i = find-inside (limitsOf s book) (chunkBytes s book c) name e _ _ q in
         rw (h, sought (At e) q) (ap (λ x. Found x n) (report-entry s book c e w (omega arith)))
 
     pub listing-absent : findIn (limitsOf s book) (chunkBytes s book c) name ≡ Nothing → Absent n ≡ answerOf book n (outcomeAt s book name 1 c)

@@ -12,6 +12,7 @@ use lib.Dec.{eqb}
 use borrow.Author.Tests.{eqb-true}
 use Rattle.names.specs.Order.{thenBy, byElement}
 use Rattle.names.specs.Names.{folded, compared}
+use Rattle.names.specs.Common.{Passed}
 use Rattle.names.specs.declared.Order.{Order}
 use Rattle.names.specs.declared.Order.the-variants.{Less, Equal, Greater}
 use Rattle.names.proofs.Orders.{Says, says-number}
@@ -40,46 +41,30 @@ module _ (a b : List ℕ) (i : ℕ) where
   pub same-byte : i < length a → i < length b → getD a i 0 ≡ getD b i 0 → compared (drop i a) (drop i b) ≡ compared (drop (i + 1) a) (drop (i + 1) b)
   same-byte p q e = turn Equal p q (ap folded e)
 
--- the same bytes from i on, up to j
-run-on : (a b : List ℕ) (i j : ℕ) → compared (drop i a) (drop i b) ≡ compared (drop j a) (drop j b) → j < length a → j < length b → eqb (getD a j 0) (getD b j 0) ≡ true
-    → compared (drop i a) (drop i b) ≡ compared (drop (j + 1) a) (drop (j + 1) b)
-run-on a b i j h p q e = h ∙ same-byte a b j p q (eqb-true (getD a j 0) (getD b j 0) e)
+-- ---- the same bytes in both, several at a time
 
-and-left : (s t : Bool) → (s && t) ≡ true → s ≡ true
-and-left true t e = refl
-and-left false t e = e
+and-both : (s t : Bool) → (s && t) ≡ true → (s ≡ true) × (t ≡ true)
+and-both true t e = (refl, e)
+and-both false true e = (e, refl)
+and-both false false e = (e, e)
 
-and-right : (s t : Bool) → (s && t) ≡ true → t ≡ true
-and-right true t e = e
-and-right false true e = refl
-and-right false false e = e
+module _ (a b : List ℕ) where
+  passed-byte : (i : ℕ) → i < length a → i < length b → Passed a b i (i + 1) (eqb (getD a i 0) (getD b i 0))
+  passed-byte i p q e = same-byte a b i p q (eqb-true (getD a i 0) (getD b i 0) e)
 
--- eight of them
-module _ (a b : List ℕ) (i : ℕ) (p : i + 8 ≤ length a) (q : i + 8 ≤ length b) where
-  abbrev alike : ℕ → Bool
-  alike j = eqb (getD a j 0) (getD b j 0)
+  -- those from i to j, and from j to k
+  pub passed-on : (i j k : ℕ) (s t : Bool) → Passed a b i j s → Passed a b j k t → Passed a b i k (s && t)
+  passed-on i j k s t p q e = let h = and-both s t e in p (h .0) ∙ q (h .1)
 
-  step : (j k : ℕ) → j + 1 ≡ k → compared (drop i a) (drop i b) ≡ compared (drop (i + j) a) (drop (i + j) b) → i + j < length a → i + j < length b → alike (i + j) ≡ true
-      → compared (drop i a) (drop i b) ≡ compared (drop (i + k) a) (drop (i + k) b)
-  step j k e h p q t =
-      subst (λ (x : ℕ). compared (drop i a) (drop i b) ≡ compared (drop x a) (drop x b)) (let z : i + j + 1 ≡ i + k = omega arith in z) (run-on a b i (i + j) h p q t)
+  pub passed-two : (i : ℕ) → i + 2 ≤ length a → i + 2 ≤ length b → Passed a b i (i + 2) (eqb (getD a i 0) (getD b i 0) && eqb (getD a (i + 1) 0) (getD b (i + 1) 0))
+  passed-two i p q =
+      let z : i + 1 + 1 ≡ i + 2 = omega arith in
+      passed-on i (i + 1) (i + 2) (eqb (getD a i 0) (getD b i 0)) (eqb (getD a (i + 1) 0) (getD b (i + 1) 0))
+      (passed-byte i (omega arith) (omega arith))
+      (subst (λ (k : ℕ). Passed a b (i + 1) k (eqb (getD a (i + 1) 0) (getD b (i + 1) 0))) z (passed-byte (i + 1) (omega arith) (omega arith)))
 
-  pub eight : (((((((alike i && alike (i + 1)) && alike (i + 2)) && alike (i + 3)) && alike (i + 4)) && alike (i + 5)) && alike (i + 6)) && alike (i + 7)) ≡ true → compared (drop i a) (drop i b) ≡ compared (drop (i + 8) a) (drop (i + 8) b)
-  eight e =
-      let r7 = e in
-      let r6 = and-left (((((((alike i && alike (i + 1)) && alike (i + 2)) && alike (i + 3)) && alike (i + 4)) && alike (i + 5)) && alike (i + 6))) (alike (i + 7)) r7 in
-      let r5 = and-left ((((((alike i && alike (i + 1)) && alike (i + 2)) && alike (i + 3)) && alike (i + 4)) && alike (i + 5))) (alike (i + 6)) r6 in
-      let r4 = and-left (((((alike i && alike (i + 1)) && alike (i + 2)) && alike (i + 3)) && alike (i + 4))) (alike (i + 5)) r5 in
-      let r3 = and-left ((((alike i && alike (i + 1)) && alike (i + 2)) && alike (i + 3))) (alike (i + 4)) r4 in
-      let r2 = and-left (((alike i && alike (i + 1)) && alike (i + 2))) (alike (i + 3)) r3 in
-      let r1 = and-left ((alike i && alike (i + 1))) (alike (i + 2)) r2 in
-      let r0 = and-left (alike i) (alike (i + 1)) r1 in
-      let h1 = run-on a b i i refl (omega arith) (omega arith) r0 in
-      let h2 = step 1 2 refl h1 (omega arith) (omega arith) (and-right (alike i) (alike (i + 1)) r1) in
-      let h3 = step 2 3 refl h2 (omega arith) (omega arith) (and-right ((alike i && alike (i + 1))) (alike (i + 2)) r2) in
-      let h4 = step 3 4 refl h3 (omega arith) (omega arith) (and-right (((alike i && alike (i + 1)) && alike (i + 2))) (alike (i + 3)) r3) in
-      let h5 = step 4 5 refl h4 (omega arith) (omega arith) (and-right ((((alike i && alike (i + 1)) && alike (i + 2)) && alike (i + 3))) (alike (i + 4)) r4) in
-      let h6 = step 5 6 refl h5 (omega arith) (omega arith) (and-right (((((alike i && alike (i + 1)) && alike (i + 2)) && alike (i + 3)) && alike (i + 4))) (alike (i + 5)) r5) in
-      let h7 = step 6 7 refl h6 (omega arith) (omega arith) (and-right ((((((alike i && alike (i + 1)) && alike (i + 2)) && alike (i + 3)) && alike (i + 4)) && alike (i + 5))) (alike (i + 6)) r6) in
-      let h8 = step 7 8 refl h7 (omega arith) (omega arith) (and-right (((((((alike i && alike (i + 1)) && alike (i + 2)) && alike (i + 3)) && alike (i + 4)) && alike (i + 5)) && alike (i + 6))) (alike (i + 7)) r7) in
-      h8
+  -- twice n of them
+  pub passed-twice : (i n m : ℕ) (s t : Bool) → n + n ≡ m → Passed a b i (i + n) s → Passed a b (i + n) (i + n + n) t → Passed a b i (i + m) (s && t)
+  passed-twice i n m s t e p q =
+      let z : i + n + n ≡ i + m = omega arith in
+      passed-on i (i + n) (i + m) s t p (subst (λ (k : ℕ). Passed a b (i + n) k t) z q)

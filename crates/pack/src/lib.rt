@@ -1,10 +1,10 @@
 // Where chunks are cut: how many entries a chunk takes.
 ghost use mathlib.Core.Path.{_≡_};
-ghost use Prim.Native.Nat.{_≤_};
+ghost use Prim.Native.Nat.{_+_, _≤_};
 ghost use Rattle.chunk.specs.Chunk.{quickCount};
 ghost use Rattle.source.specs.Source.{rowsFrom};
 ghost use Rattle.pack.specs.Groups.{fits as fitsIn};
-ghost use Rattle.pack.specs.Fill.{rowSize, extentFrom};
+ghost use Rattle.pack.specs.Fill.{rowSize, fitOf, extentFrom};
 use entries::Place;
 use source::Cursor;
 use source::Taken;
@@ -16,25 +16,32 @@ pub struct Extent {
     pub at: usize,
 }
 
-// How many quick words `count` entries have, one for each n but the first; none for n = 0.
+// The entry that a chunk takes next, with the bytes of its entries up to this one; or it is full: the next does not fit, or there is none.
+pub enum Fit {
+    Entry(Place, usize),
+    Full,
+}
+
+// How many quick words stand in a chunk of `count` entries and one more: one for each n but the first; none for n = 0.
 fn quick_words(count: usize, n: usize) -> usize
-    ensures { λ r. ⌜ (r ≡ quickCount n count) × (r ≤ count) ⌝ }
+    ensures { λ r. ⌜ r ≡ quickCount n (count + 1) ⌝ }
 {
     if n == 0 {
         return 0;
     }
-    if count == 0 {
-        return 0;
-    }
-    (count - 1) / n
+    count / n
 }
 
-// Whether `count` entries of `bytes` bytes together fit a chunk.
+// Whether an entry behind `count` others fits a chunk, where all of them have `bytes` bytes.
 fn fits(listing: bool, n: usize, count: usize, bytes: usize) -> bool
-    requires { ⌜ (count ≤ 65536) × (bytes ≤ 65536) ⌝ }
-    ensures { λ r. ⌜ r ≡ fitsIn listing n count bytes ⌝ }
+    requires { ⌜ bytes ≤ 65536 ⌝ }
+    ensures { λ r. ⌜ r ≡ fitsIn listing n (count + 1) bytes ⌝ }
 {
-    chunk::head(listing) + bytes + (2 * quick_words(count, n) + 2) <= 4096
+    let words = quick_words(count, n);
+    if 2047 < words {
+        return false;
+    }
+    chunk::head(listing) + bytes + (2 * words + 2) <= 4096
 }
 
 // How many bytes an entry takes where it is written from its numbers.
@@ -49,31 +56,48 @@ fn entry_size(listing: bool, e: Place) -> usize
     name + encint::size(e.child)
 }
 
+// The next entry of a chunk that has taken so much, if it fits.
+pub fn next_fit(
+    input: &[u8],
+    starts: &[usize],
+    content: u64,
+    listing: bool,
+    n: usize,
+    f: Extent,
+) -> Fit
+    ensures { λ r. ⌜ r ≡ fitOf listing n (f .count) (f .bytes) (rowsFrom content (now (input .entry)) (now (starts .entry)) listing (f .at)) ⌝ }
+{
+    if 4096 < f.bytes {
+        return Fit::Full;
+    }
+    let c = Cursor { listing, at: f.at };
+    let Taken::Entry(e, _) = source::step(input, starts, content, c) else {
+        return Fit::Full;
+    };
+    let bytes = f.bytes + entry_size(listing, e);
+    if fits(listing, n, f.count, bytes) {
+        return Fit::Entry(e, bytes);
+    }
+    Fit::Full
+}
+
 // The entries from a cursor on that go into one chunk: as many as fit.
 pub fn fill(input: &[u8], starts: &[usize], content: u64, from: Cursor, n: usize) -> Extent
     ensures { λ r. ⌜ r ≡ extentFrom (from .listing) n 0 0 (from .at) (rowsFrom content (now (input .entry)) (now (starts .entry)) (from .listing) (from .at)) ⌝ }
 {
-    let mut count: usize = 0;
-    let mut bytes: usize = 0;
-    let mut c = from;
+    let mut f = Extent {
+        count: 0,
+        bytes: 0,
+        at: from.at,
+    };
     loop {
-        let Taken::Entry(e, next) = source::step(input, starts, content, c) else {
-            return Extent {
-                count,
-                bytes,
-                at: c.at,
-            };
+        let Fit::Entry(e, bytes) = next_fit(input, starts, content, from.listing, n, f) else {
+            return f;
         };
-        let more = bytes + entry_size(c.listing, e);
-        if !fits(c.listing, n, count + 1, more) {
-            return Extent {
-                count,
-                bytes,
-                at: c.at,
-            };
-        }
-        count += 1;
-        bytes = more;
-        c = next;
+        f = Extent {
+            count: f.count + 1,
+            bytes,
+            at: e.next,
+        };
     }
 }

@@ -15,8 +15,11 @@ use lib.ListN.{length, getD, drop}
 use lib.Dec.{ltb, eqb}
 use borrow.Author.Tests.{lt-ltb, le-ltb, eq-eqb, ne-eqb}
 use Rattle.fields.proofs.Tests.{and-both}
-use Rattle.names.specs.Names.{below, matches}
-use Rattle.names.proofs.Laws.{below-trans}
+use Rattle.names.specs.Order.{isLess, isEqual, notGreater}
+use Rattle.names.specs.Names.{compared, below, matches}
+use Rattle.names.specs.declared.Order.{Order}
+use Rattle.names.specs.declared.Order.the-variants.{Less, Equal, Greater}
+use Rattle.names.proofs.Laws.{names-laws, notGreater-less, below-less}
 use Rattle.entries.specs.Entry.{itemAt, nameOf}
 use Rattle.entries.specs.declared.Limits.{Limits}
 use Rattle.entries.specs.declared.Place.{Place}
@@ -25,47 +28,61 @@ use Rattle.entries.proofs.Laws.{item-inside}
 use Rattle.chunk.specs.Chunk.{Entry, all, entryOf, entriesAt, rising, headOf, countOf, tailOf, spacingOf, quickWord, parsed, entriesIn, isKind}
 use Rattle.chunk.proofs.Accepted.{Accepted, accepted, entries-more, entries-none, entries-count}
 use Rattle.chunk.proofs.Quick.{word}
-use Rattle.seek.specs.Seek.{Sought, absent, found, lookup, choice, nth, final, soughtOf, findAt, chooseAt, afterAt, groupAt, nthIn, findIn, chooseIn, firstIn, lastIn}
+use Rattle.seek.specs.Seek.{byOrder, Sought, absent, found, lookup, choice, nth, final, soughtOf, findAt, chooseAt, afterAt, groupAt, nthIn, groupIn, leftFrom, findIn, chooseIn, firstIn, lastIn}
+use Rattle.seek.proofs.Groups.{group-entries, group-good}
 use Rattle.seek.specs.declared.Hit.{Hit}
 use Rattle.seek.specs.declared.Hit.the-variants.{At, Nothing}
 
 -- ---- the entry of a name
 
-find-here : (s : List ℕ) (p : Place) (t : Bool) (h : Hit) (r : Sought) → soughtOf s h ≡ r → soughtOf s (cond t (At p) h) ≡ cond t (found (entryOf s p)) r
-find-here s p true h r e = refl
-find-here s p false h r e = e
+-- names rise, so behind one that is not below the name there is only what is above it
+lookup-behind : (name x : List ℕ) (es : List Entry) → notGreater (compared name x) ≡ true → rising x es ≡ true → lookup name es ≡ absent
+unfolding rising lookup matches
+lookup-behind name x [] h r = refl
+lookup-behind name x (e ∷ es) h r =
+    let q = and-both (below x (e .name)) (rising (e .name) es) r in
+    let l = notGreater-less names-laws name x (e .name) h (below-less x (e .name) (q .0)) in
+    rw l (lookup-behind name (e .name) es (ap notGreater l) (q .1))
 
-find-all : (limits : Limits) (s name : List ℕ) (end n at : ℕ) (es : List Entry) → entriesAt limits true s end n at ≡ all es
+find-here : (s name : List ℕ) (p : Place) (h : Hit) (es : List Entry) (o : Order) → compared name (nameOf s p) ≡ o → rising (nameOf s p) es ≡ true
+    → soughtOf s h ≡ lookup name es → soughtOf s (byOrder o Nothing (At p) h) ≡ cond (isEqual o) (found (entryOf s p)) (lookup name es)
+find-here s name p h es Less q r e = sym (lookup-behind name (nameOf s p) es (ap notGreater q) r)
+find-here s name p h es Equal q r e = refl
+find-here s name p h es Greater q r e = e
+
+find-all : (limits : Limits) (s name : List ℕ) (end n at : ℕ) (x : List ℕ) (es : List Entry) → entriesAt limits true s end n at ≡ all es → rising x es ≡ true
     → soughtOf s (findAt limits s name n at) ≡ lookup name es
-unfolding findAt lookup
-find-all limits s name end zero at es e = rw (entries-none limits true s end at es e) refl
-find-all limits s name end (suc n) at es e =
+unfolding findAt lookup rising matches
+find-all limits s name end zero at x es e r = rw (entries-none limits true s end at es e) refl
+find-all limits s name end (suc n) at x es e r =
     let m = entries-more limits true s end n at es e in
-    let i = find-all limits s name end n (m .0 .next) (m .1) (m .4) in
-    let here : soughtOf s (findAt limits s name (suc n) at) ≡ lookup name (entryOf s (m .0) ∷ m .1) =
-    rw (m .2) (find-here s (m .0) (matches name (nameOf s (m .0))) (findAt limits s name n (m .0 .next)) (lookup name (m .1)) i) in
+    let p = m .0 in
+    let q = and-both (below x (nameOf s p)) (rising (nameOf s p) (m .1)) (subst (λ (l : List Entry). rising x l ≡ true) (m .3) r) in
+    let i = find-all limits s name end n (p .next) (nameOf s p) (m .1) (m .4) (q .1) in
+    let here : soughtOf s (findAt limits s name (suc n) at) ≡ lookup name (entryOf s p ∷ m .1) =
+    rw (m .2) (find-here s name p (findAt limits s name n (p .next)) (m .1) (compared name (nameOf s p)) refl (q .1) i) in
     here ∙ ap (lookup name) (sym (m .3))
 
 -- ---- the entry to go down from
 
--- names rise, so behind one that is above the name there is none that is not
-above-all : (name x : List ℕ) (es : List Entry) (last : Sought) → below name x ≡ true → rising x es ≡ true → choice name last es ≡ last
-unfolding rising choice
-above-all name x [] last h r = refl
-above-all name x (e ∷ es) last h r =
+choice-behind : (name x : List ℕ) (es : List Entry) (last : Sought) → notGreater (compared name x) ≡ true → rising x es ≡ true → choice name last es ≡ last
+unfolding rising choice below
+choice-behind name x [] last h r = refl
+choice-behind name x (e ∷ es) last h r =
     let q = and-both (below x (e .name)) (rising (e .name) es) r in
-    let t = below-trans name x (e .name) h (q .0) in
-    rw t (above-all name (e .name) es last t (q .1))
+    let l = notGreater-less names-laws name x (e .name) h (below-less x (e .name) (q .0)) in
+    rw l (choice-behind name (e .name) es last (ap notGreater l) (q .1))
 
-choose-here : (s name : List ℕ) (p : Place) (best h : Hit) (es : List Entry) (t : Bool) → below name (nameOf s p) ≡ t → rising (nameOf s p) es ≡ true
+choose-here : (s name : List ℕ) (p : Place) (best h : Hit) (es : List Entry) (o : Order) → compared name (nameOf s p) ≡ o → rising (nameOf s p) es ≡ true
     → soughtOf s h ≡ choice name (found (entryOf s p)) es
-    → soughtOf s (cond t best h) ≡ choice name (cond t (soughtOf s best) (found (entryOf s p))) es
-choose-here s name p best h es true b r e = sym (above-all name (nameOf s p) es (soughtOf s best) b r)
-choose-here s name p best h es false b r e = e
+    → soughtOf s (byOrder o best (At p) h) ≡ choice name (cond (isLess o) (soughtOf s best) (found (entryOf s p))) es
+choose-here s name p best h es Less q r e = sym (choice-behind name (nameOf s p) es (soughtOf s best) (ap notGreater q) r)
+choose-here s name p best h es Equal q r e = sym (choice-behind name (nameOf s p) es (found (entryOf s p)) (ap notGreater q) r)
+choose-here s name p best h es Greater q r e = e
 
 choose-all : (limits : Limits) (s name : List ℕ) (end n at : ℕ) (x : List ℕ) (best : Hit) (es : List Entry) → entriesAt limits false s end n at ≡ all es → rising x es ≡ true
     → soughtOf s (chooseAt limits s name best n at) ≡ choice name (soughtOf s best) es
-unfolding chooseAt choice rising
+unfolding chooseAt choice rising below
 choose-all limits s name end zero at x best es e r = rw (entries-none limits false s end at es e) refl
 choose-all limits s name end (suc n) at x best es e r =
     let m = entries-more limits false s end n at es e in
@@ -73,7 +90,7 @@ choose-all limits s name end (suc n) at x best es e r =
     let q = and-both (below x (nameOf s p)) (rising (nameOf s p) (m .1)) (subst (λ (l : List Entry). rising x l ≡ true) (m .3) r) in
     let i = choose-all limits s name end n (p .next) (nameOf s p) (At p) (m .1) (m .4) (q .1) in
     let here : soughtOf s (chooseAt limits s name best (suc n) at) ≡ choice name (soughtOf s best) (entryOf s p ∷ m .1) =
-    rw (m .2) (choose-here s name p best (chooseAt limits s name (At p) n (p .next)) (m .1) (below name (nameOf s p)) refl (q .1) i) in
+    rw (m .2) (choose-here s name p best (chooseAt limits s name (At p) n (p .next)) (m .1) (compared name (nameOf s p)) refl (q .1) i) in
     here ∙ ap (choice name (soughtOf s best)) (sym (m .3))
 
 -- ---- entry i
@@ -104,56 +121,20 @@ after-all limits k s end (suc n) (suc j) at es h e =
     rw (m .2) (after-all limits k s end n j (m .0 .next) (m .1) (omega arith) (m .4)) in
     here ∙ ap (nth (suc j)) (sym (m .3))
 
--- the first entry stands at the place where they begin
-first-place : (limits : Limits) (k : Bool) (s : List ℕ) (d : Entry) (end n at : ℕ) (es : List Entry) → 0 < n → entriesAt limits k s end n at ≡ all es → getD es 0 d .at ≡ at
-first-place limits k s d end zero at es h e = absurd (omega arith)
-first-place limits k s d end (suc n) at es h e =
-    let m = entries-more limits k s end n at es e in
-    ap (λ (l : List Entry). getD l 0 d .at) (m .3) ∙ item-inside limits k s at (m .0) (m .2) .same
-
--- the entries from entry j on stand from its place on
-from-entry : (limits : Limits) (k : Bool) (s : List ℕ) (d : Entry) (end n j at : ℕ) (es : List Entry) → j < n → entriesAt limits k s end n at ≡ all es
-    → entriesAt limits k s end (n - j) (getD es j d .at) ≡ all (drop j es)
-from-entry limits k s d end n zero at es h e =
-    let z : n - 0 ≡ n = omega arith in
-    ap₂ (λ (m p : ℕ). entriesAt limits k s end m p) z (first-place limits k s d end n at es h e) ∙ e
-from-entry limits k s d end zero (suc j) at es h e = absurd (omega arith)
-from-entry limits k s d end (suc n) (suc j) at es h e =
-    let m = entries-more limits k s end n at es e in
-    let z : suc n - suc j ≡ n - j = omega arith in
-    let r = from-entry limits k s d end n j (m .0 .next) (m .1) (omega arith) (m .4) in
-    ap₂ (λ (x : ℕ) (l : List Entry). entriesAt limits k s end x (getD l (suc j) d .at)) z (m .3) ∙ r ∙ ap (λ (l : List Entry). all (drop (suc j) l)) (sym (m .3))
-
 module _ (limits : Limits) (k : Bool) (s : List ℕ) (es : List Entry) (good : Accepted limits k s es) where
-  n : ℕ
+  abbrev n : ℕ
   n = spacingOf (limits .density)
 
-  -- some entry, for places past the last
-  other : Entry
-  other = record { at = 0; start = 0; name = []; section = 0; offset = 0; size = 0; child = 0 }
-
-  -- a quick word leads to its entry
-  group-place : (g : ℕ) → g * n < countOf s → groupAt k s g ≡ getD es (g * n) other .at
-  unfolding groupAt n
-  group-place g l =
-      let c = entries-count limits k s (4096 - tailOf s) (countOf s) (headOf k) es (good .entries) in
-      elim (ℕ-discrete g 0) [
-        | yes z ↦ (let f = first-place limits k s other (4096 - tailOf s) (countOf s) (headOf k) es (good .some) (good .entries) in
-            let y : g * n ≡ 0 = omega (arith, ap (λ (x : ℕ). x * n) z) in
-            rw (eq-eqb g 0 z, y) (sym f))
-        | no z ↦ rw (ne-eqb g 0 z) (word s n (headOf k) other es g (good .words) (omega arith) (omega arith) (omega arith))
-      ]
-
   nth-inside : (i : ℕ) → i < countOf s → soughtOf s (nthIn limits k s i) ≡ nth i es
-  unfolding nthIn n
+  unfolding nthIn
   nth-inside i l =
       let g = i / n in
       let j = i % n in
       let i-is : g * n + j ≡ i = div-add-mod' i n in
       let low : g * n < countOf s = omega arith in
-      let f = from-entry limits k s other (4096 - tailOf s) (countOf s) (g * n) (headOf k) es low (good .entries) in
-      rw (lt-ltb _ _ l, group-place g low)
-      (after-all limits k s (4096 - tailOf s) (countOf s - g * n) j (getD es (g * n) other .at) (drop (g * n) es) (omega arith) f
+      let f = group-entries limits k s es good g low in
+      rw (lt-ltb _ _ l)
+      (after-all limits k s (4096 - tailOf s) (countOf s - g * n) j (groupAt k s g) (drop (g * n) es) (omega arith) f
       ∙ nth-drop (g * n) j es ∙ ap (λ (x : ℕ). nth x es) i-is)
 
   nth-outside : (i : ℕ) → countOf s ≤ i → soughtOf s (nthIn limits k s i) ≡ nth i es
@@ -181,12 +162,14 @@ nth-last (e ∷ es) = let z : suc (length es) - 1 ≡ length es = omega arith in
 
 module _ (limits : Limits) (s : List ℕ) where
   pub find-good : (name : List ℕ) → isKind true (parsed limits s) ≡ true → soughtOf s (findIn limits s name) ≡ lookup name (entriesIn (parsed limits s))
-  find-good name h = let g = accepted limits true s h in find-all limits s name (4096 - tailOf s) (countOf s) 20 (entriesIn (parsed limits s)) (g .entries)
+  find-good name h =
+      let a = group-good limits true s (entriesIn (parsed limits s)) (accepted limits true s h) name in
+      find-all limits s name (4096 - tailOf s) _ _ (a .above) _ (a .entries) (a .rises) ∙ sym (a .lookups)
 
   pub choose-good : (name : List ℕ) → isKind false (parsed limits s) ≡ true → soughtOf s (chooseIn limits s name) ≡ choice name absent (entriesIn (parsed limits s))
   choose-good name h =
-      let g = accepted limits false s h in
-      choose-all limits s name (4096 - tailOf s) (countOf s) 8 [] Nothing (entriesIn (parsed limits s)) (g .entries) (g .rises)
+      let a = group-good limits false s (entriesIn (parsed limits s)) (accepted limits false s h) name in
+      choose-all limits s name (4096 - tailOf s) _ _ (a .above) Nothing _ (a .entries) (a .rises) ∙ sym (a .choices)
 
   pub nth-good : (k : Bool) (i : ℕ) → isKind k (parsed limits s) ≡ true → soughtOf s (nthIn limits k s i) ≡ nth i (entriesIn (parsed limits s))
   nth-good k i h = nth-accepted limits k s (entriesIn (parsed limits s)) (accepted limits k s h) i

@@ -3,14 +3,22 @@
 use mathlib.Core.Path.{_≡_, refl, ap, _∙_}
 use mathlib.Core.List.{List}
 use mathlib.Core.Bool.{Bool, true, false}
-use Prim.Native.Nat.{ℕ, zero, suc, _-_, _≤_, _<_}
+use Prim.Native.Nat.{ℕ, zero, suc, _+_, _-_, _/_, _≤_, _<_}
 use native.Mathlib.Omega.{arith}
-use Rattle.names.specs.Names.{below, matches}
+use lib.Dec.{eqb}
+use lib.ListN.{length}
+use borrow.Author.Tests.{eq-eqb, ne-eqb}
+use Rattle.names.specs.Names.{compared}
+use Rattle.names.specs.declared.Order.{Order}
+use Rattle.names.specs.declared.Order.the-variants.{Less, Equal, Greater}
 use Rattle.entries.specs.Entry.{itemAt, nameOf}
 use Rattle.entries.specs.declared.Limits.{Limits}
 use Rattle.entries.specs.declared.Place.{Place}
+use Rattle.entries.specs.declared.Item.{Item}
 use Rattle.entries.specs.declared.Item.the-variants.{Good, Bad}
-use Rattle.seek.specs.Seek.{findAt, chooseAt, afterAt}
+use Rattle.entries.proofs.Laws.{item-inside}
+use Rattle.chunk.specs.Chunk.{withItem}
+use Rattle.seek.specs.Seek.{byOrder, groupAbove, groupFrom, findAt, chooseAt, afterAt}
 use Rattle.seek.specs.declared.Hit.{Hit}
 use Rattle.seek.specs.declared.Hit.the-variants.{At, Nothing}
 
@@ -30,11 +38,15 @@ module _ (limits : Limits) (s name : List ℕ) (left at : ℕ) where
   find-bad h g = some-left (λ n. findAt limits s name n at) left h ∙ rw g refl
 
   module _ (e : Place) (h : 0 < left) (g : itemAt limits true s at ≡ Good e) where
-    pub find-here : matches name (nameOf s e) ≡ true → findAt limits s name left at ≡ At e
+    pub find-above : compared name (nameOf s e) ≡ Less → findAt limits s name left at ≡ Nothing
+    unfolding findAt
+    find-above m = some-left (λ n. findAt limits s name n at) left h ∙ rw (g, m) refl
+
+    pub find-here : compared name (nameOf s e) ≡ Equal → findAt limits s name left at ≡ At e
     unfolding findAt
     find-here m = some-left (λ n. findAt limits s name n at) left h ∙ rw (g, m) refl
 
-    pub find-on : matches name (nameOf s e) ≡ false → findAt limits s name left at ≡ findAt limits s name (left - 1) (e .next)
+    pub find-on : compared name (nameOf s e) ≡ Greater → findAt limits s name left at ≡ findAt limits s name (left - 1) (e .next)
     unfolding findAt
     find-on m = some-left (λ n. findAt limits s name n at) left h ∙ rw (g, m) refl
 
@@ -48,13 +60,34 @@ module _ (limits : Limits) (s name : List ℕ) (best : Hit) (left at : ℕ) wher
   choose-bad h g = some-left (λ n. chooseAt limits s name best n at) left h ∙ rw g refl
 
   module _ (e : Place) (h : 0 < left) (g : itemAt limits false s at ≡ Good e) where
-    pub choose-above : below name (nameOf s e) ≡ true → chooseAt limits s name best left at ≡ best
+    pub choose-above : compared name (nameOf s e) ≡ Less → chooseAt limits s name best left at ≡ best
     unfolding chooseAt
     choose-above m = some-left (λ n. chooseAt limits s name best n at) left h ∙ rw (g, m) refl
 
-    pub choose-on : below name (nameOf s e) ≡ false → chooseAt limits s name best left at ≡ chooseAt limits s name (At e) (left - 1) (e .next)
+    pub choose-here : compared name (nameOf s e) ≡ Equal → chooseAt limits s name best left at ≡ At e
+    unfolding chooseAt
+    choose-here m = some-left (λ n. chooseAt limits s name best n at) left h ∙ rw (g, m) refl
+
+    pub choose-on : compared name (nameOf s e) ≡ Greater → chooseAt limits s name best left at ≡ chooseAt limits s name (At e) (left - 1) (e .next)
     unfolding chooseAt
     choose-on m = some-left (λ n. chooseAt limits s name best n at) left h ∙ rw (g, m) refl
+
+-- the groups lo to lo + more are left, to be halved n times at most
+module _ (k : Bool) (s name : List ℕ) where
+  pub group-one : (n lo more : ℕ) → more ≤ 0 → groupFrom k s name n lo more ≡ lo
+  unfolding groupFrom
+  group-one zero lo more h = refl
+  group-one (suc n) lo more h = rw (eq-eqb more 0 (omega arith))
+
+  module _ (n lo more : ℕ) (h : 0 < more) (f : more ≤ n) where
+    pub group-below : groupAbove k s name (lo + (more + 1) / 2) ≡ true → groupFrom k s name n lo more ≡ groupFrom k s name (n - 1) lo ((more + 1) / 2 - 1)
+    unfolding groupFrom
+    group-below m = some-left (λ i. groupFrom k s name i lo more) n (omega arith) ∙ rw (ne-eqb more 0 (omega arith), m) refl
+
+    pub group-from : groupAbove k s name (lo + (more + 1) / 2) ≡ false
+        → groupFrom k s name n lo more ≡ groupFrom k s name (n - 1) (lo + (more + 1) / 2) (more - (more + 1) / 2)
+    unfolding groupFrom
+    group-from m = some-left (λ i. groupFrom k s name i lo more) n (omega arith) ∙ rw (ne-eqb more 0 (omega arith), m) refl
 
 -- what is no entry ends the walk, however many entries are left
 pub after-bad : (limits : Limits) (k : Bool) (s : List ℕ) (left at : ℕ) → itemAt limits k s at ≡ Bad → afterAt limits k s left at ≡ Nothing
@@ -70,3 +103,21 @@ module _ (limits : Limits) (k : Bool) (s : List ℕ) (left at : ℕ) where
   pub after-here : (e : Place) → left ≤ 0 → itemAt limits k s at ≡ Good e → afterAt limits k s left at ≡ At e
   unfolding afterAt
   after-here e h g = none-left (λ n. afterAt limits k s n at) left h ∙ rw g refl
+
+-- ---- what is found lies inside the chunk
+
+pub find-inside : (limits : Limits) (s name : List ℕ) (e : Place) (n at : ℕ) → findAt limits s name n at ≡ At e → e .start + e .len ≤ length s
+unfolding findAt
+find-inside limits s name e zero at q = let z : _≡_ {A = ℕ} 0 1 = cc in absurd (omega arith)
+find-inside limits s name e (suc n) at q = go (itemAt limits true s at) refl (λ p. find-inside limits s name e n p) q
+  where
+    here : (o : Order) (x : Place) → x .start + x .len ≤ length s → (findAt limits s name n (x .next) ≡ At e → e .start + e .len ≤ length s)
+        → byOrder o Nothing (At x) (findAt limits s name n (x .next)) ≡ At e → e .start + e .len ≤ length s
+    here Less x l f q = let z : _≡_ {A = ℕ} 0 1 = cc in absurd (omega arith)
+    here Equal x l f q = let z : x ≡ e = cc in rw (← z) l
+    here Greater x l f q = f q
+
+    go : (i : Item) → itemAt limits true s at ≡ i → ((p : ℕ) → findAt limits s name n p ≡ At e → e .start + e .len ≤ length s)
+        → withItem i Nothing (λ x. byOrder (compared name (nameOf s x)) Nothing (At x) (findAt limits s name n (x .next))) ≡ At e → e .start + e .len ≤ length s
+    go Bad g f q = let z : _≡_ {A = ℕ} 0 1 = cc in absurd (omega arith)
+    go (Good x) g f q = here (compared name (nameOf s x)) x (item-inside limits true s at x g .name) (f (x .next)) q

@@ -1,31 +1,105 @@
 // Search in one chunk: the entry of a name, the entry to go down from, entry i. On a chunk that passes its check each is a search in
 // its entries; on other bytes it ends at the first thing that is no entry.
 ghost use mathlib.Core.Path.{_≡_};
-ghost use Prim.Native.Nat.{_≤_};
-ghost use Rattle.seek.specs.Seek.{findIn, chooseIn, groupAt, afterAt, nthIn, firstIn, lastIn};
+ghost use Prim.Native.Nat.{_≤_, _<_};
+ghost use Rattle.seek.specs.Seek.{groupAt, groupAbove, groupFrom, groupIn, leftFrom, findIn, chooseIn, afterAt, nthIn, firstIn, lastIn};
+use encint::Number;
 use entries::Item;
 use entries::Limits;
 use entries::Place;
+use names::Order;
 
 pub enum Hit {
     At(Place),
     Nothing,
 }
 
+// A group of entries: where it begins, and how many entries there are from there on.
+struct Group {
+    at: usize,
+    left: usize,
+}
+
+// Where the entry stands that quick word g is for; the first entry for 0.
+fn group_at(c: &[u8], listing: bool, g: usize) -> usize
+    ensures { λ r. ⌜ r ≡ groupAt listing (now (c .entry)) g ⌝ }
+{
+    let first = chunk::head(listing);
+    if g == 0 {
+        return first;
+    }
+    if 2047 < g {
+        return first + fields::le16(c, 0) as usize;
+    }
+    first + fields::le16(c, 4094 - 2 * g) as usize
+}
+
+// Whether the first name of group g is above a name, or there is none.
+fn starts_above(c: &[u8], listing: bool, name: &[u8], g: usize) -> bool
+    ensures { λ r. ⌜ r ≡ groupAbove listing (now (c .entry)) (now (name .entry)) g ⌝ }
+{
+    let Number::Value(n, start) = entries::name_at(c, group_at(c, listing, g)) else {
+        return true;
+    };
+    let len = n as usize;
+    names::is_below(name, &c[start..start + len])
+}
+
+// Of groups 0 to `last`, the one to go through for a name.
+fn group_of(c: &[u8], listing: bool, name: &[u8], last: usize) -> usize
+    requires { ⌜ last < 65536 ⌝ }
+    ensures { λ r. ⌜ (r ≡ groupFrom listing (now (c .entry)) (now (name .entry)) last 0 last) × (r ≤ last) ⌝ }
+{
+    let mut lo: usize = 0;
+    let mut more = last;
+    while 0 < more {
+        let half = (more + 1) / 2;
+        if starts_above(c, listing, name, lo + half) {
+            more = half - 1;
+        } else {
+            lo += half;
+            more -= half;
+        }
+    }
+    lo
+}
+
+// The group of a chunk to go through for a name.
+fn group_for(c: &[u8], limits: Limits, listing: bool, name: &[u8]) -> Group
+    ensures { λ r. ⌜ (r .at ≡ groupAt listing (now (c .entry)) (groupIn limits listing (now (c .entry)) (now (name .entry)))) × (r .left ≡ leftFrom limits (now (c .entry)) (groupIn limits listing (now (c .entry)) (now (name .entry)))) ⌝ }
+{
+    let total = fields::le16(c, 4094) as usize;
+    if total == 0 {
+        return Group {
+            at: chunk::head(listing),
+            left: 0,
+        };
+    }
+    let n = chunk::spacing(limits.density);
+    let g = group_of(c, listing, name, (total - 1) / n);
+    Group {
+        at: group_at(c, listing, g),
+        left: total - g * n,
+    }
+}
+
 // The entry of a listing chunk whose name compares equal.
 pub fn find(c: &[u8], limits: Limits, name: &[u8]) -> Hit
     ensures { λ r. ⌜ r ≡ findIn limits (now (c .entry)) (now (name .entry)) ⌝ }
 {
-    let mut at: usize = 20;
-    let mut left = fields::le16(c, 4094);
+    let group = group_for(c, limits, true, name);
+    let mut at = group.at;
+    let mut left = group.left;
     while 0 < left {
-        let Item::Good(e) = entries::item_at(c, limits, true, at) else {
+        let Item::Good(e) = entries::listing_at(c, at, limits.content) else {
             return Hit::Nothing;
         };
         let start = e.start;
         let len = e.len;
-        if names::is_match(name, &c[start..start + len]) {
-            return Hit::At(e);
+        match names::compare(name, &c[start..start + len]) {
+            Order::Less => return Hit::Nothing,
+            Order::Equal => return Hit::At(e),
+            Order::Greater => {}
         }
         at = e.next;
         left -= 1;
@@ -37,17 +111,20 @@ pub fn find(c: &[u8], limits: Limits, name: &[u8]) -> Hit
 pub fn choose(c: &[u8], limits: Limits, name: &[u8]) -> Hit
     ensures { λ r. ⌜ r ≡ chooseIn limits (now (c .entry)) (now (name .entry)) ⌝ }
 {
+    let group = group_for(c, limits, false, name);
     let mut best = Hit::Nothing;
-    let mut at: usize = 8;
-    let mut left = fields::le16(c, 4094);
+    let mut at = group.at;
+    let mut left = group.left;
     while 0 < left {
-        let Item::Good(e) = entries::item_at(c, limits, false, at) else {
+        let Item::Good(e) = entries::index_at(c, at, limits.count) else {
             return best;
         };
-        let start = e.start;
+        let from = e.start;
         let len = e.len;
-        if names::is_below(name, &c[start..start + len]) {
-            return best;
+        match names::compare(name, &c[from..from + len]) {
+            Order::Less => return best,
+            Order::Equal => return Hit::At(e),
+            Order::Greater => {}
         }
         best = Hit::At(e);
         at = e.next;
@@ -73,20 +150,6 @@ fn entry_behind(c: &[u8], limits: Limits, listing: bool, past: usize, from: usiz
         Item::Good(e) => Hit::At(e),
         Item::Bad => Hit::Nothing,
     }
-}
-
-// Where the entry stands that quick word g is for; the first entry for 0.
-fn group_at(c: &[u8], listing: bool, g: usize) -> usize
-    ensures { λ r. ⌜ r ≡ groupAt listing (now (c .entry)) g ⌝ }
-{
-    let first = chunk::head(listing);
-    if g == 0 {
-        return first;
-    }
-    if 2047 < g {
-        return first + fields::le16(c, 0) as usize;
-    }
-    first + fields::le16(c, 4094 - 2 * g) as usize
 }
 
 // Entry i of a chunk.

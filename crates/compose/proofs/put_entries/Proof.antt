@@ -1,45 +1,43 @@
--- `compose::put_entries` meets its contract. Assumes nothing.
+-- `compose::put_entries` meets its contract. The loop's invariant: what is taken is written, and with what is yet to be taken is the whole.
+-- Assumes nothing.
 use mathlib.Core.Path.{_≡_, refl, sym, _∙_}
-use Prim.Native.Nat.{_-_}
+use Prim.Native.Nat.{_+_, _-_}
 use native.Mathlib.Omega.{arith}
+use lib.ListN.{length}
 use denote.Ref.{now}
-use Rattle.entries.specs.declared.Item.the-variants.{Good}
-use Rattle.source.specs.Source.{itemFrom}
-use Rattle.source.proofs.Rows.{taken-entry, taken-end}
-use Rattle.compose.proofs.Turns.{Putting, Turn, putting-start, putting-there, putting-turn, putting-more, putting-end}
+use Rattle.pack.proofs.Filling.{Fitted, fitted}
+use Rattle.compose.proofs.Turns.{Putting, Turn, putting-start, putting-turn, putting-more, putting-end}
 use borrow.Author.Needs.{needs}
 use Rattle.compose.proofs.put_entries.Statement.{statement}
 use Rattle.compose.proofs.put_entries.Tie as tie
 
 abbrev Inv-loop : tie.InvT-loop
-Inv-loop out₀ input starts content count n first at₀ c₀ i₀ out at c i =
-    (c .listing ≡ c₀ .listing) × Putting content input starts (c₀ .listing) (c₀ .at) count n out₀ out first at (c .at) i
+Inv-loop out₀ input starts content from n first f₀ out f =
+    (length out ≡ length out₀) × Putting content input starts (from .listing) (from .at) n out f
 
 abbrev μ-loop : tie.MeasureT-loop
-μ-loop out₀ input starts content count n first at₀ c₀ i₀ out at c i = count - i
+μ-loop out₀ input starts content from n first f₀ out f = length input + length starts - f .at
 
--- the entry at the cursor, and the cursor behind it
-read-is : (c : tie.After-e Inv-loop μ-loop) → let l = c .before .before .before .before in let a = l .before .before .before .before .before .args in
-    (itemFrom (a .content) (now (a .input)) (now (a .starts)) (a .from .listing) (l .loop .c .at) ≡ Good (c .e .given .0 .0))
-    × (c .e .given .0 .1 .0 .listing ≡ a .from .listing)
-    × (c .e .given .0 .1 .0 .at ≡ c .e .given .0 .0 .next)
-read-is c =
-    let l = c .before .before .before .before in
-    taken-entry _ _ _ _ (sym (rw (l .loop .inv .0) at (c .before .before .step .ensures)) ∙ c .e .given .1)
+whole-size : (c : tie.At-loop Inv-loop μ-loop) → length (c .loop .out) ≡ 4096
+whole-size c = c .loop .inv .0 ∙ c .before .before .before .before .before .pre .0
 
-turn : (c : tie.After-e Inv-loop μ-loop) → let l = c .before .before .before .before in let a = l .before .before .before .before .before .args in
-    Turn (a .content) (now (a .input)) (now (a .starts)) (a .from .listing) (a .from .at) (a .count) (a .n) (now (a .out)) (l .before .before .before .before .before .pre) (l .loop .out) (c .before .before .before .before .before .head .result) (l .loop .at) (l .loop .c .at) (l .loop .i)
-    (l .loop .inv .1) (c .before .before .before .loop-test .taken) (c .e .given .0 .0) (read-is c .0)
-turn c = putting-turn _ _ _ _ _ _ _ _ _ _ _ _ _ _ _ _ _ _
+-- the entry that is next
+next : (c : tie.After-e Inv-loop μ-loop) → let l = c .before .before .before in let a = l .before .before .before .before .before .args in
+    Fitted (a .content) (now (a .input)) (now (a .starts)) (a .from .listing) (a .n) (l .loop .f .count) (l .loop .f .bytes) (l .loop .f .at) (c .e .given .0 .0) (c .e .given .0 .1 .0)
+next c = fitted _ _ _ _ _ _ _ _ _ _ (sym (c .before .before .next-fit .ensures) ∙ c .e .given .1)
+
+turn : (c : tie.After-e Inv-loop μ-loop) → let l = c .before .before .before in let a = l .before .before .before .before .before .args in
+    Turn (a .content) (now (a .input)) (now (a .starts)) (a .from .listing) (a .from .at) (a .n) (l .loop .out) (l .loop .f) (l .loop .inv .1) (c .e .given .0 .0) (c .e .given .0 .1 .0) (next c)
+turn c = putting-turn _ _ _ _ _ _ _ _ _ _ _ _
 
 head-requires : tie.Need-head-requires Inv-loop μ-loop
 head-requires c κs = search needs
 
 loop-holds : tie.Need-loop-holds Inv-loop μ-loop
-loop-holds c = (refl, putting-start _ _ _ _ _ _ _ _ (c .before .before .before .before .pre) _ (c .head .ensures))
+loop-holds c = let p = c .before .before .before .before .pre in (refl, putting-start _ _ _ _ _ _ _ (p .0) (p .1))
 
-step-requires : tie.Need-step-requires Inv-loop μ-loop
-step-requires c κs = search needs
+next-fit-requires : tie.Need-next-fit-requires Inv-loop μ-loop
+next-fit-requires c κs = search needs
 
 enum-known-e : tie.Need-enum-known-e Inv-loop μ-loop
 enum-known-e c = search needs
@@ -48,46 +46,35 @@ enum-told : tie.Need-enum-told Inv-loop μ-loop
 enum-told c = search needs
 
 same-length : tie.Need-same-length Inv-loop μ-loop
-same-length c = c .before .before .before .before .loop .inv .1 .kept
+same-length c = c .before .before .before .loop .inv .0
 
 returns : tie.Need-returns Inv-loop μ-loop
 returns c =
-    let l = c .before .before .before .before in
-    absurd (putting-there _ _ _ _ _ _ _ _ (l .before .before .before .before .before .pre) _ _ _ _ _ (l .loop .inv .1) (c .before .before .before .loop-test .taken)
-    (taken-end _ _ (sym (rw (l .loop .inv .0) at (c .before .before .step .ensures)) ∙ c .enum-told .given .1)))
+    let t = c .before .before in
+    putting-end _ _ _ _ _ _ _ _ (t .before .loop .inv .1) (sym (t .next-fit .ensures) ∙ c .enum-told .given .1)
+
+add-put-entry : tie.Need-add-put-entry Inv-loop μ-loop
+add-put-entry c = let e = c .before .before .before in omega (arith, turn e .fits, e .before .before .before .before .head .ensures)
 
 put-entry-requires : tie.Need-put-entry-requires Inv-loop μ-loop
-put-entry-requires c κs = let t = turn (c .before .before) in (rw (c .before .before .before .before .before .before .loop .inv .0) (omega (arith, t .fits, c .before .before .before .before .before .before .loop .inv .1 .kept, c .before .before .before .before .before .before .before .before .before .before .before .pre .whole)), t .inside)
-
-sub-mark : tie.Need-sub-mark Inv-loop μ-loop
-sub-mark c = omega (arith, turn (c .before .before .before .before .before .before) .behind)
+put-entry-requires c κs = let e = c .before .before .before in (omega (arith, turn e .fits, whole-size (e .before .before .before), e .before .before .before .before .head .ensures), next e .inside)
 
 mark-requires : tie.Need-mark-requires Inv-loop μ-loop
-mark-requires c κs = let t = turn (c .before .before .before .before .before .before) in (c .before .before .before .put-entry .kept .0 ∙ c .before .before .before .before .before .before .before .before .before .before .loop .inv .1 .kept ∙ c .before .before .before .before .before .before .before .before .before .before .before .before .before .before .before .pre .whole, t .words, omega (arith, t .near))
+mark-requires c κs = let e = c .before .before .before .before .before .before .before in (c .before .before .before .put-entry .kept .0 ∙ whole-size (e .before .before .before), turn e .words, omega (arith, turn e .near))
 
-add-i : tie.Need-add-i Inv-loop μ-loop
-add-i c = search needs
+add-t15 : tie.Need-add-t15 Inv-loop μ-loop
+add-t15 c = let e = c .before .before .before .before .before .before .before .before .before .before .before in omega (arith, e .before .before .before .loop .inv .1 .few, turn e .near)
 
 loop-less : tie.Need-loop-less Inv-loop μ-loop
-loop-less c = search needs
+loop-less c = let t = next (c .before .before .before .before .before .before .before .before .before .before .before) in omega (arith, t .moves, t .ends)
 
 loop-again : tie.Need-loop-again Inv-loop μ-loop
 loop-again c =
-    let e = c .before .before .before .before .before .before .before .before .before in
-    let l = c .before .before .before .before .before .before .before .before .before .before .before .before .before in
-    let r = read-is e in
-    let p = c .before .before .before .before .before .before .put-entry in
-    let m = c .before .before .mark in (
-      r .1,
-      rw (r .2) (putting-more _ _ _ _ _ _ _ _ (c .before .before .before .before .before .before .before .before .before .before .before .before .before .before .before .before .before .before .pre) _ _ _ _ _ (l .loop .inv .1) (c .before .before .before .before .before .before .before .before .before .before .before .before .loop-test .taken) _ (r .0) _ _ _
-          (rw (l .loop .inv .0) at (p .ensures .0)) (rw (l .loop .inv .0) at (p .ensures .1)) (m .ensures) (m .kept .0 ∙ p .kept .0)),
-    )
-
-same-length-2 : tie.Need-same-length-2 Inv-loop μ-loop
-same-length-2 c = c .before .loop .inv .1 .kept
-
-returns-2 : tie.Need-returns-2 Inv-loop μ-loop
-returns-2 c = putting-end _ _ _ _ _ _ _ _ (c .before .before .before .before .before .before .pre) _ _ _ _ _ (c .before .loop .inv .1) (c .loop-test .left)
+    let e = c .before .before .before .before .before .before .before .before .before .before .before in
+    let l = e .before .before .before in
+    let p = c .before .before .before .before .before .before .before .put-entry in
+    let m = c .before .before .before .mark in
+    (m .kept .0 ∙ p .kept .0 ∙ l .loop .inv .0, putting-more _ _ _ _ _ _ _ _ (l .loop .inv .1) _ _ (next e) _ _ _ (l .before .head .ensures) (p .ensures) (m .ensures))
 
 pub put-entries-spec : {M : Type 1} → statement M
 put-entries-spec =
@@ -97,16 +84,14 @@ put-entries-spec =
     μ-loop
     head-requires
     loop-holds
-    step-requires
+    next-fit-requires
     enum-known-e
     enum-told
     same-length
     returns
+    add-put-entry
     put-entry-requires
-    sub-mark
     mark-requires
-    add-i
+    add-t15
     loop-less
-    loop-again
-    same-length-2
-    returns-2)
+    loop-again)

@@ -1,19 +1,21 @@
 -- `compose::write_chunk` meets its contract. Assumes nothing.
-use mathlib.Core.Path.{_≡_, _∙_}
+use mathlib.Core.Path.{_≡_, sym, ap, _∙_}
 use mathlib.Core.Bool.{cond}
 use mathlib.Core.List.{List}
 use Prim.Native.Nat.{ℕ}
 use native.Mathlib.Omega.{arith}
-use lib.ListN.{length}
+use lib.ListN.{length, replicate}
 use lib.Dec.{eqb}
 use denote.Ref.{now}
 use borrow.Author.Tests.{eq-eqb, ne-eqb}
-use Rattle.compose.proofs.Whole.{Told, extent-told, composable, chunk-written}
+use Rattle.compose.proofs.Whole.{Told, extent-told, chunk-written}
 use borrow.Author.Needs.{needs}
 use Rattle.compose.proofs.write_chunk.Statement.{statement}
 use Rattle.compose.proofs.write_chunk.Tie as tie
 
-told : (c : tie.After-fill) → let a = c .before .before .before .before .args in Told (a .content) (now (a .input)) (now (a .starts)) (a .from .listing) (a .from .at) (a .n) (c .fill .result) (c .fill .ensures)
+-- what the chunk takes
+told : (c : tie.After-put-entries) → let a = c .before .before .before .before .before .before .before .before .before .before .args in
+    Told (a .content) (now (a .input)) (now (a .starts)) (a .from .listing) (a .from .at) (a .n) (c .put-entries .result) (c .put-entries .ensures .0)
 told c = extent-told _ _ _ _ _ _ _ _
 
 -- the choice by the lent part's size
@@ -27,30 +29,42 @@ fill-requires : tie.Need-fill-requires
 fill-requires c κs = search needs
 
 returns : tie.Need-returns
-returns c = (c .before .fill .ensures, other-size _ _ (c .if1 .taken))
+returns c = (c .fill .ensures, other-size _ _ (c .before .if1 .taken))
 
-blank-requires : tie.Need-blank-requires
-blank-requires c κs = let t = told (c .before .before) in (c .before .if1 .left, omega (arith, t .room), omega (arith, t .room, t .few))
+clear-requires : tie.Need-clear-requires
+clear-requires c κs = search needs
 
 put-entries-requires : tie.Need-put-entries-requires
 put-entries-requires c κs =
-    let a = c .before .before .before .before .before .before .before .before .before .before .args in
-    let b = c .before .before .before .blank in
-    composable _ _ _ _ _ _ _ (c .before .before .before .before .before .before .fill .ensures) (a .prev) (a .next) _ (b .kept .0 ∙ c .before .before .before .before .before .if1 .left) (b .ensures)
+    let z = c .before .before .before .clear in
+    (z .kept .0 ∙ c .before .before .before .before .before .if1 .left, z .ensures ∙ ap (λ (m : ℕ). replicate {A = ℕ} m 0) (sym (z .kept .0)))
+
+put-frame-requires : tie.Need-put-frame-requires
+put-frame-requires c κs =
+    let p = c .before .before .before in
+    let t = told p in
+    (p .put-entries .kept .0 ∙ c .before .before .before .before .before .before .before .clear .kept .0 ∙ c .before .before .before .before .before .before .before .before .before .if1 .left, omega (arith, t .room), omega (arith, t .room, t .few))
 
 same-length : tie.Need-same-length
 same-length c = search needs
 
 returns-2 : tie.Need-returns-2
 returns-2 c =
-    let a = c .before .before .before .before .before .before .before .before .before .before .before .before .before .args in
-    let b = c .before .before .before .before .before .before .blank in (
-      c .before .before .before .before .before .before .before .before .before .fill .ensures,
-      chunk-written _ _ _ _ _ _ _ (c .before .before .before .before .before .before .before .before .before .fill .ensures) (a .prev) (a .next) _ (b .kept .0 ∙ c .before .before .before .before .before .before .before .before .if1 .left) (b .ensures) _ (c .before .before .put-entries .ensures)
-          ∙ whole-size (a .out .now) _ (c .before .before .before .before .before .before .before .before .if1 .left),
+    let p = c .before .before .before .before .before .before .put-entries in
+    let a = c .before .before .before .before .before .before .before .before .before .before .before .before .before .before .before .before .args in (
+      p .ensures .0,
+      chunk-written _ _ _ _ _ _ _ (p .ensures .0) (a .prev) (a .next) _ _ (p .ensures .1) (c .before .before .put-frame .ensures)
+          ∙ whole-size (a .out .now) _ (c .before .before .before .before .before .before .before .before .before .before .before .before .if1 .left),
     )
 
 pub write-chunk-spec : {M : Type 1} → statement M
 write-chunk-spec =
     tie.close
-    (tie.spec fill-requires returns blank-requires put-entries-requires same-length returns-2)
+    (tie.spec
+    fill-requires
+    returns
+    clear-requires
+    put-entries-requires
+    put-frame-requires
+    same-length
+    returns-2)

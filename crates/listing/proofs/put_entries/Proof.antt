@@ -25,9 +25,10 @@ count-is : (c : tie.After-le16 Inv-loop μ-loop) → let a = c .before .before .
     c .le16 .result ≡ countOf (chunkBytes (now (a .file)) (a .book) (a .chunk))
 count-is c = rw (← c .before .before .chunk-bytes .ensures) (c .le16 .ensures)
 
-read-is : (c : tie.After-item-at Inv-loop μ-loop) → let l = c .before .before in let a = l .before .before .before .before .before .before .args in
-    c .item-at .result ≡ itemAt (limitsOf (now (a .file)) (a .book)) true (chunkBytes (now (a .file)) (a .book) (a .chunk)) (l .loop .at)
-read-is c = rw (← c .before .before .before .before .limits .ensures, ← c .before .before .before .before .before .chunk-bytes .ensures) (c .item-at .ensures)
+read-is : (c : tie.After-listing-at Inv-loop μ-loop) → let l = c .before .before in let a = l .before .before .before .before .before .before .args in
+    c .listing-at .result ≡ itemAt (limitsOf (now (a .file)) (a .book)) true (chunkBytes (now (a .file)) (a .book) (a .chunk)) (l .loop .at)
+unfolding itemAt
+read-is c = rw (← c .before .before .before .before .limits .ensures, ← c .before .before .before .before .before .chunk-bytes .ensures) (c .listing-at .ensures)
 
 -- an entry is there
 good-is : (c : tie.After-e Inv-loop μ-loop) → let l = c .before .before .before .before in let a = l .before .before .before .before .before .before .args in
@@ -60,8 +61,8 @@ loop-holds c =
     let b = c .before .before .before .before .before in
     left-start (now (b .args .file)) (b .args .book) (b .args .chunk) (b .pre .0) (now (b .args .out))
 
-item-at-requires : tie.Need-item-at-requires Inv-loop μ-loop
-item-at-requires c κs = search needs
+listing-at-requires : tie.Need-listing-at-requires Inv-loop μ-loop
+listing-at-requires c κs = search needs
 
 enum-known-e : tie.Need-enum-known-e Inv-loop μ-loop
 enum-known-e c = search needs
@@ -125,7 +126,7 @@ put-entries-spec =
     le16-requires
     cast-total
     loop-holds
-    item-at-requires
+    listing-at-requires
     enum-known-e
     enum-told
     same-length

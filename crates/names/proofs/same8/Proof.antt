@@ -1,134 +1,22 @@
--- `same8` meets its contract. Assumes nothing.
-use Rattle.names.proofs.Steps.{eight}
-use native.Mathlib.Omega.{arith}
+use borrow.Author.Needs.{needs}
+use mathlib.Core.Path.{refl}
+use Rattle.names.proofs.Steps.{passed-twice}
 use Rattle.names.proofs.same8.Statement.{statement}
 use Rattle.names.proofs.same8.Tie as tie
 
-shared-slice-read-result : tie.Need-shared-slice-read-result
-shared-slice-read-result c = omega arith
+same4-requires : tie.Need-same4-requires
+same4-requires c κs = search needs
 
-shared-slice-read-result-2 : tie.Need-shared-slice-read-result-2
-shared-slice-read-result-2 c = omega arith
+add-same4 : tie.Need-add-same4
+add-same4 c = search needs
 
-add-result : tie.Need-add-result
-add-result c = omega arith
-
-shared-slice-read-result-3 : tie.Need-shared-slice-read-result-3
-shared-slice-read-result-3 c = omega arith
-
-add-result-2 : tie.Need-add-result-2
-add-result-2 c = omega arith
-
-shared-slice-read-result-4 : tie.Need-shared-slice-read-result-4
-shared-slice-read-result-4 c = omega arith
-
-add-result-3 : tie.Need-add-result-3
-add-result-3 c = omega arith
-
-shared-slice-read-result-5 : tie.Need-shared-slice-read-result-5
-shared-slice-read-result-5 c = omega arith
-
-add-result-4 : tie.Need-add-result-4
-add-result-4 c = omega arith
-
-shared-slice-read-result-6 : tie.Need-shared-slice-read-result-6
-shared-slice-read-result-6 c = omega arith
-
-add-result-5 : tie.Need-add-result-5
-add-result-5 c = omega arith
-
-shared-slice-read-result-7 : tie.Need-shared-slice-read-result-7
-shared-slice-read-result-7 c = omega arith
-
-add-result-6 : tie.Need-add-result-6
-add-result-6 c = omega arith
-
-shared-slice-read-result-8 : tie.Need-shared-slice-read-result-8
-shared-slice-read-result-8 c = omega arith
-
-add-result-7 : tie.Need-add-result-7
-add-result-7 c = omega arith
-
-shared-slice-read-result-9 : tie.Need-shared-slice-read-result-9
-shared-slice-read-result-9 c = omega arith
-
-add-result-8 : tie.Need-add-result-8
-add-result-8 c = omega arith
-
-shared-slice-read-result-10 : tie.Need-shared-slice-read-result-10
-shared-slice-read-result-10 c = omega arith
-
-add-result-9 : tie.Need-add-result-9
-add-result-9 c = omega arith
-
-shared-slice-read-result-11 : tie.Need-shared-slice-read-result-11
-shared-slice-read-result-11 c = omega arith
-
-add-result-10 : tie.Need-add-result-10
-add-result-10 c = omega arith
-
-shared-slice-read-result-12 : tie.Need-shared-slice-read-result-12
-shared-slice-read-result-12 c = omega arith
-
-add-result-11 : tie.Need-add-result-11
-add-result-11 c = omega arith
-
-shared-slice-read-result-13 : tie.Need-shared-slice-read-result-13
-shared-slice-read-result-13 c = omega arith
-
-add-result-12 : tie.Need-add-result-12
-add-result-12 c = omega arith
-
-shared-slice-read-result-14 : tie.Need-shared-slice-read-result-14
-shared-slice-read-result-14 c = omega arith
-
-add-result-13 : tie.Need-add-result-13
-add-result-13 c = omega arith
-
-shared-slice-read-result-15 : tie.Need-shared-slice-read-result-15
-shared-slice-read-result-15 c = omega arith
-
-add-result-14 : tie.Need-add-result-14
-add-result-14 c = omega arith
-
-shared-slice-read-result-16 : tie.Need-shared-slice-read-result-16
-shared-slice-read-result-16 c = omega arith
+same4-requires-2 : tie.Need-same4-requires-2
+same4-requires-2 c κs = search needs
 
 returns : tie.Need-returns
-returns c = λ e. let s = c .before .before .before .before .before .before .before .before .before .before .before .before .before .before .before .before in eight (s .args .a .now) (s .args .b .now) (s .args .i) (s .pre .0) (s .pre .1) e
+returns c =
+    let a = c .before .before .before .before .args in
+    passed-twice (a .a .now) (a .b .now) (a .i) 4 8 (c .before .same4 .result) (c .same42 .result) refl (c .before .same4 .ensures) (c .same42 .ensures)
 
 pub same8-spec : {M : Type 1} → statement M
-same8-spec =
-    tie.close
-    (tie.spec
-    shared-slice-read-result
-    shared-slice-read-result-2
-    add-result
-    shared-slice-read-result-3
-    add-result-2
-    shared-slice-read-result-4
-    add-result-3
-    shared-slice-read-result-5
-    add-result-4
-    shared-slice-read-result-6
-    add-result-5
-    shared-slice-read-result-7
-    add-result-6
-    shared-slice-read-result-8
-    add-result-7
-    shared-slice-read-result-9
-    add-result-8
-    shared-slice-read-result-10
-    add-result-9
-    shared-slice-read-result-11
-    add-result-10
-    shared-slice-read-result-12
-    add-result-11
-    shared-slice-read-result-13
-    add-result-12
-    shared-slice-read-result-14
-    add-result-13
-    shared-slice-read-result-15
-    add-result-14
-    shared-slice-read-result-16
-    returns)
+same8-spec = tie.close (tie.spec same4-requires add-same4 same4-requires-2 returns)

@@ -4,12 +4,12 @@ use mathlib.Core.Bool.{true, false}
 use native.Mathlib.Nat.{add-sub-cancel-left}
 use native.Mathlib.Omega.{arith}
 use denote.Ref.{now}
-use Rattle.names.specs.Names.{matches}
+use Rattle.names.specs.Names.{compared}
 use Rattle.entries.specs.Entry.{itemAt, nameOf}
-use Rattle.entries.specs.declared.Item.the-variants.{Good}
+use Rattle.entries.specs.declared.Item.the-variants.{Good, Bad}
 use Rattle.entries.proofs.Laws.{Inside, item-inside}
 use Rattle.seek.specs.Seek.{findAt, findIn}
-use Rattle.seek.proofs.Steps.{find-end, find-bad, find-here, find-on}
+use Rattle.seek.proofs.Steps.{find-end, find-bad, find-above, find-here, find-on}
 use Rattle.seek.proofs.find.Statement.{statement}
 use Rattle.seek.proofs.find.Tie as tie
 
@@ -19,27 +19,34 @@ Inv-loop c limits name at₀ left₀ at left = findAt limits c name left at ≡ 
 abbrev μ-loop : tie.MeasureT-loop
 μ-loop c limits name at₀ left₀ at left = left
 
+-- what was read is an entry, or is none
 read-is : (c : tie.After-e Inv-loop μ-loop) → let l = c .before .before .before .before in let a = l .before .before .before .before .args in
     itemAt (a .limits) true (now (a .c)) (l .loop .at) ≡ Good (c .e .given .0 .0)
-read-is c = sym (c .before .before .item-at .ensures) ∙ c .e .given .1
+unfolding itemAt
+read-is c = sym (c .before .before .listing-at .ensures) ∙ c .e .given .1
+
+read-bad : (c : tie.After-enum-told Inv-loop μ-loop) → let l = c .before .before .before .before in let a = l .before .before .before .before .args in
+    itemAt (a .limits) true (now (a .c)) (l .loop .at) ≡ Bad
+unfolding itemAt
+read-bad c = sym (c .before .before .listing-at .ensures) ∙ c .enum-told .given .1
 
 -- the name lies inside the chunk
 name-inside : (c : tie.After-known-told Inv-loop μ-loop) → let l = c .before .before .before .before .before in
     Inside (now (l .before .before .before .before .args .c)) (l .loop .at) (c .before .e .given .0 .0)
 name-inside c = item-inside _ _ _ _ _ (read-is (c .before))
 
-compared-is : (c : tie.After-is-match Inv-loop μ-loop) → let e = c .before .before .before in let a = e .before .before .before .before .before .before .before .before .args in
-    c .is-match .result ≡ matches (now (a .name)) (nameOf (now (a .c)) (e .e .given .0 .0))
-compared-is c = simp add-sub-cancel-left at (c .is-match .ensures)
+compared-is : (c : tie.After-compare Inv-loop μ-loop) → let e = c .before .before .before in let a = e .before .before .before .before .before .before .before .before .args in
+    c .compare .result ≡ compared (now (a .name)) (nameOf (now (a .c)) (e .e .given .0 .0))
+compared-is c = simp add-sub-cancel-left at (c .compare .ensures)
 
-le16-requires : tie.Need-le16-requires Inv-loop μ-loop
-le16-requires c κs = search needs
+group-for-requires : tie.Need-group-for-requires Inv-loop μ-loop
+group-for-requires c κs = search needs
 
 loop-holds : tie.Need-loop-holds Inv-loop μ-loop
-loop-holds c = rw (c .le16 .ensures)
+loop-holds c = rw (c .group-for .ensures .0, c .group-for .ensures .1)
 
-item-at-requires : tie.Need-item-at-requires Inv-loop μ-loop
-item-at-requires c κs = search needs
+listing-at-requires : tie.Need-listing-at-requires Inv-loop μ-loop
+listing-at-requires c κs = search needs
 
 enum-known-e : tie.Need-enum-known-e Inv-loop μ-loop
 enum-known-e c = search needs
@@ -51,29 +58,45 @@ returns : tie.Need-returns Inv-loop μ-loop
 returns c =
     let l = c .before .before .before .before in
     let a = l .before .before .before .before .args in
-    sym (find-bad (a .limits) (now (a .c)) (now (a .name)) (l .loop .left) (l .loop .at) (c .before .before .before .loop-test .taken) (sym (c .before .before .item-at .ensures) ∙ c .enum-told .given .1)) ∙ l .loop .inv
+    sym (find-bad (a .limits) (now (a .c)) (now (a .name)) (l .loop .left) (l .loop .at) (c .before .before .before .loop-test .taken) (read-bad c)) ∙ l .loop .inv
 
-add-is-match : tie.Need-add-is-match Inv-loop μ-loop
-add-is-match c = omega (arith, name-inside c .name)
+add-compare : tie.Need-add-compare Inv-loop μ-loop
+add-compare c = omega (arith, name-inside c .name)
 
-sub-is-match : tie.Need-sub-is-match Inv-loop μ-loop
-sub-is-match c = omega (arith, name-inside c .name)
+sub-compare : tie.Need-sub-compare Inv-loop μ-loop
+sub-compare c = omega (arith, name-inside c .name)
 
-part-is-match-start : tie.Need-part-is-match-start Inv-loop μ-loop
-part-is-match-start c = omega (arith, name-inside c .name)
+part-compare-start : tie.Need-part-compare-start Inv-loop μ-loop
+part-compare-start c = omega (arith, name-inside c .name)
 
-part-is-match-end : tie.Need-part-is-match-end Inv-loop μ-loop
-part-is-match-end c = omega (arith, name-inside c .name)
+part-compare-end : tie.Need-part-compare-end Inv-loop μ-loop
+part-compare-end c = omega (arith, name-inside c .name)
 
-is-match-requires : tie.Need-is-match-requires Inv-loop μ-loop
-is-match-requires c κs = search needs
+compare-requires : tie.Need-compare-requires Inv-loop μ-loop
+compare-requires c κs = search needs
+
+enum-told-2 : tie.Need-enum-told-2 Inv-loop μ-loop
+enum-told-2 c = search needs
 
 returns-2 : tie.Need-returns-2 Inv-loop μ-loop
 returns-2 c =
-    let m = c .before .before .before .before in
+    let m = c .before .before .before .before .before in
     let l = m .before .before .before .before in
     let a = l .before .before .before .before .args in
-    sym (find-here (a .limits) (now (a .c)) (now (a .name)) (l .loop .left) (l .loop .at) (m .e .given .0 .0) (m .before .before .before .loop-test .taken) (read-is m) (sym (compared-is (c .before)) ∙ c .if1 .taken)) ∙ l .loop .inv
+    sym (find-above (a .limits) (now (a .c)) (now (a .name)) (l .loop .left) (l .loop .at) (m .e .given .0 .0) (m .before .before .before .loop-test .taken) (read-is m) (sym (compared-is (c .before .before)) ∙ c .enum-told2 .given .1)) ∙ l .loop .inv
+
+enum-told-3 : tie.Need-enum-told-3 Inv-loop μ-loop
+enum-told-3 c = search needs
+
+returns-3 : tie.Need-returns-3 Inv-loop μ-loop
+returns-3 c =
+    let m = c .before .before .before .before .before in
+    let l = m .before .before .before .before in
+    let a = l .before .before .before .before .args in
+    sym (find-here (a .limits) (now (a .c)) (now (a .name)) (l .loop .left) (l .loop .at) (m .e .given .0 .0) (m .before .before .before .loop-test .taken) (read-is m) (sym (compared-is (c .before .before)) ∙ c .enum-told3 .given .1)) ∙ l .loop .inv
+
+enum-told-4 : tie.Need-enum-told-4 Inv-loop μ-loop
+enum-told-4 c = search needs
 
 sub-left : tie.Need-sub-left Inv-loop μ-loop
 sub-left c = omega arith
@@ -83,13 +106,13 @@ loop-less c = omega arith
 
 loop-again : tie.Need-loop-again Inv-loop μ-loop
 loop-again c =
-    let m = c .before .before .before .before in
+    let m = c .before .before .before .before .before in
     let l = m .before .before .before .before in
     let a = l .before .before .before .before .args in
-    sym (find-on (a .limits) (now (a .c)) (now (a .name)) (l .loop .left) (l .loop .at) (m .e .given .0 .0) (m .before .before .before .loop-test .taken) (read-is m) (sym (compared-is (c .before)) ∙ c .if1 .left)) ∙ l .loop .inv
+    sym (find-on (a .limits) (now (a .c)) (now (a .name)) (l .loop .left) (l .loop .at) (m .e .given .0 .0) (m .before .before .before .loop-test .taken) (read-is m) (sym (compared-is (c .before .before)) ∙ c .enum-told4 .given .1)) ∙ l .loop .inv
 
-returns-3 : tie.Need-returns-3 Inv-loop μ-loop
-returns-3 c =
+returns-4 : tie.Need-returns-4 Inv-loop μ-loop
+returns-4 c =
     let l = c .before in
     let a = l .before .before .before .before .args in
     sym (find-end (a .limits) (now (a .c)) (now (a .name)) (l .loop .left) (l .loop .at) (c .loop-test .left)) ∙ l .loop .inv
@@ -100,19 +123,23 @@ find-spec =
     (tie.spec
     Inv-loop
     μ-loop
-    le16-requires
+    group-for-requires
     loop-holds
-    item-at-requires
+    listing-at-requires
     enum-known-e
     enum-told
     returns
-    add-is-match
-    sub-is-match
-    part-is-match-start
-    part-is-match-end
-    is-match-requires
+    add-compare
+    sub-compare
+    part-compare-start
+    part-compare-end
+    compare-requires
+    enum-told-2
     returns-2
+    enum-told-3
+    returns-3
+    enum-told-4
     sub-left
     loop-less
     loop-again
-    returns-3)
+    returns-4)

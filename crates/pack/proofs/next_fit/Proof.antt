@@ -1,0 +1,74 @@
+-- `pack::next_fit` meets its contract. Assumes nothing.
+use mathlib.Core.Path.{_≡_, sym, _∙_}
+use Prim.Native.Nat.{_≤_}
+use native.Mathlib.Omega.{arith}
+use borrow.Author.Needs.{needs}
+use denote.Ref.{now}
+use Rattle.entries.specs.declared.Item.the-variants.{Good}
+use Rattle.source.specs.Source.{itemFrom}
+use Rattle.source.proofs.Rows.{taken-entry, taken-end, row-of}
+use Rattle.pack.proofs.Sizes.{row-short}
+use Rattle.pack.proofs.Filling.{fit-over, fit-none, fit-taken, fit-left}
+use Rattle.pack.proofs.next_fit.Statement.{statement}
+use Rattle.pack.proofs.next_fit.Tie as tie
+
+-- the entry at the cursor
+read-is : (c : tie.After-e) → let a = c .before .before .before .before .before .before .before .args in
+    itemFrom (a .content) (now (a .input)) (now (a .starts)) (a .listing) (a .f .at) ≡ Good (c .e .given .0 .0)
+read-is c = taken-entry _ _ _ _ (sym (c .before .before .step .ensures) ∙ c .e .given .1) .0
+
+-- it is short
+small : (c : tie.After-entry-size) → c .entry-size .result ≤ 1060
+small c =
+    let e = c .before .before in
+    let a = e .before .before .before .before .before .before .before .args in
+    omega (arith, c .entry-size .ensures, row-short (a .listing) (e .e .given .0 .0) (row-of _ _ _ _ _ _ (read-is e) .short))
+
+returns : tie.Need-returns
+returns c = sym (fit-over _ _ _ _ _ (c .if1 .taken))
+
+step-requires : tie.Need-step-requires
+step-requires c κs = search needs
+
+enum-known-e : tie.Need-enum-known-e
+enum-known-e c = search needs
+
+enum-told : tie.Need-enum-told
+enum-told c = search needs
+
+returns-2 : tie.Need-returns-2
+returns-2 c = sym (fit-none _ _ _ _ _ _ _ _ (taken-end _ _ (sym (c .before .before .step .ensures) ∙ c .enum-told .given .1)))
+
+entry-size-requires : tie.Need-entry-size-requires
+entry-size-requires c κs = row-of _ _ _ _ _ _ (read-is (c .before)) .short
+
+add-bytes : tie.Need-add-bytes
+add-bytes c = omega (arith, small (c .before), c .before .before .before .before .before .before .if1 .left)
+
+fits-requires : tie.Need-fits-requires
+fits-requires c κs = omega (arith, small (c .before), c .before .before .before .before .before .before .if1 .left)
+
+returns-3 : tie.Need-returns-3
+returns-3 c =
+    let s = c .before .before .before in
+    fit-taken _ _ _ _ _ _ _ _ _ (read-is (s .before .before)) _ (s .entry-size .ensures) _ (c .before .fits2 .ensures) (c .if2 .taken)
+
+returns-4 : tie.Need-returns-4
+returns-4 c =
+    let s = c .before .before .before in
+    fit-left _ _ _ _ _ _ _ _ _ (read-is (s .before .before)) _ (s .entry-size .ensures) _ (c .before .fits2 .ensures) (c .if2 .left)
+
+pub next-fit-spec : {M : Type 1} → statement M
+next-fit-spec =
+    tie.close
+    (tie.spec
+    returns
+    step-requires
+    enum-known-e
+    enum-told
+    returns-2
+    entry-size-requires
+    add-bytes
+    fits-requires
+    returns-3
+    returns-4)
