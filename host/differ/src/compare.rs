@@ -57,6 +57,12 @@ fn record_numbers(record: &Record) -> [u64; 11] {
     ]
 }
 
+/// The record as it is lent to be read: on the heap between guards, where a change is seen. Of a
+/// local array behind `&` the compiler takes for granted that it stays.
+fn lent(record: &Record) -> Lent<u64> {
+    Lent::with("record", &record_numbers(record))
+}
+
 fn report_numbers(report: &Report) -> [u64; 5] {
     [
         report.place,
@@ -86,11 +92,6 @@ impl Both {
     fn lent(mut self, difference: Option<String>) -> Both {
         self.differences.extend(difference);
         self
-    }
-
-    /// For what is only read.
-    fn kept(self, kept: bool, name: &str) -> Both {
-        self.lent((!kept).then(|| format!("{name}: changed by the library")))
     }
 
     fn told(self) -> Result<(), String> {
@@ -184,20 +185,20 @@ impl Differ {
         };
         self.count_lookup(asked, record, name, places, &told);
 
-        let lent_record = record_numbers(record);
-        let lent_name = name.to_vec();
+        let mut lent_record = lent(record);
+        let mut lent_name = Lent::with("name", name);
         let got = library::lookup(
             asked.file,
-            &lent_record,
-            &lent_name,
+            lent_record.lend_array(),
+            lent_name.lend(),
             trail.lend(),
             answer.lend_array(),
         );
         Both::new(expected, got)
             .lent(answer.difference())
             .lent(trail.difference())
-            .kept(lent_record == record_numbers(record), "record")
-            .kept(lent_name == name, "name")
+            .lent(lent_record.difference())
+            .lent(lent_name.difference())
     }
 
     fn count_lookup(
@@ -208,7 +209,6 @@ impl Differ {
         places: usize,
         told: &Answer,
     ) {
-        const DESCENTS: [&str; 5] = ["1 chunk", "2 chunks", "3 chunks", "4 chunks", "5 chunks"];
         let coverage = &mut self.coverage;
         let answer = match told {
             Answer::Found { .. } => "found",
@@ -229,19 +229,12 @@ impl Differ {
             1026.. => coverage.count("asked name", "longer"),
             _ => {}
         }
-        match told {
-            Answer::Found { report, trail } => {
-                coverage.count("descent", DESCENTS[trail.len() - 1]);
-                if part(asked.file, report.place, report.length) != name {
-                    coverage.count("asked name", "found in another case");
-                }
+        if let Answer::Found { report, .. } = told {
+            if part(asked.file, report.place, report.length) != name {
+                coverage.count("asked name", "found in another case");
             }
-            Answer::Absent { trail } if (trail.len() as u64) < record.depth => {
-                coverage.count("descent", "ends in an index chunk");
-            }
-            Answer::Absent { trail } => coverage.count("descent", DESCENTS[trail.len() - 1]),
-            Answer::Refused(_) => {}
         }
+        self.count_descent(record, told);
         if !matches!(answer, "15" | "16") {
             self.count_made_up(
                 "lookup with a record of no book",
@@ -250,6 +243,20 @@ impl Differ {
                 answer != "17",
             );
         }
+    }
+
+    fn count_descent(&mut self, record: &Record, told: &Answer) {
+        const DESCENTS: [&str; 5] = ["1 chunk", "2 chunks", "3 chunks", "4 chunks", "5 chunks"];
+        let (trail, absent) = match told {
+            Answer::Found { trail, .. } => (trail, false),
+            Answer::Absent { trail } => (trail, true),
+            Answer::Refused(_) => return,
+        };
+        let name = match absent && (trail.len() as u64) < record.depth {
+            true => "ends in an index chunk",
+            false => DESCENTS[trail.len() - 1],
+        };
+        self.coverage.count("descent", name);
     }
 
     /// Counts an answer to a record that the bytes did not give.
@@ -263,6 +270,8 @@ impl Differ {
         if asked.opened != Some(*record) {
             let answer = if answered { "answered" } else { "17" };
             self.coverage.count(group, answer);
+            let numbers = record_numbers(record);
+            self.coverage.count_extremes(&coverage::RECORD, &numbers);
         }
     }
 
@@ -271,11 +280,11 @@ impl Differ {
         let first = start(record);
         cursor.expect(&[first.chunk, first.entry]);
         self.coverage.count("start", "0");
-        let lent_record = record_numbers(record);
-        let got = library::start(&lent_record, cursor.lend_array());
+        let mut lent_record = lent(record);
+        let got = library::start(lent_record.lend_array(), cursor.lend_array());
         Both::new(DONE, got)
             .lent(cursor.difference())
-            .kept(lent_record == record_numbers(record), "record")
+            .lent(lent_record.difference())
     }
 
     fn step(&mut self, asked: &Asked, record: &Record, at: Cursor) -> Both {
@@ -300,19 +309,21 @@ impl Differ {
             Step::Refused(refusal) => (code(refusal), coverage::number(refusal.number)),
         };
         self.coverage.count("step", name);
+        let numbers = [at.chunk, at.entry];
+        self.coverage.count_extremes(&coverage::CURSOR, &numbers);
         self.count_made_up("step with a record of no book", asked, record, name != "17");
 
-        let lent_record = record_numbers(record);
+        let mut lent_record = lent(record);
         let got = library::step(
             asked.file,
-            &lent_record,
+            lent_record.lend_array(),
             cursor.lend_array(),
             entry.lend_array(),
         );
         Both::new(answer, got)
             .lent(cursor.difference())
             .lent(entry.difference())
-            .kept(lent_record == record_numbers(record), "record")
+            .lent(lent_record.difference())
     }
 
     fn page(&mut self, asked: &Asked, record: &Record, chunk: u64, places: usize) -> Both {
@@ -336,10 +347,10 @@ impl Differ {
         self.coverage.count("page", name);
         self.count_made_up("page with a record of no book", asked, record, name != "17");
 
-        let lent_record = record_numbers(record);
+        let mut lent_record = lent(record);
         let got = library::chunk(
             asked.file,
-            &lent_record,
+            lent_record.lend_array(),
             chunk,
             entries.lend(),
             next.lend_array(),
@@ -347,7 +358,7 @@ impl Differ {
         Both::new(answer, got)
             .lent(entries.difference())
             .lent(next.difference())
-            .kept(lent_record == record_numbers(record), "record")
+            .lent(lent_record.difference())
     }
 
     fn count_places(&mut self, needed: usize, places: usize) {
@@ -394,9 +405,9 @@ impl Differ {
             self.count_output(head.map_or(0, |head| head.len()), input.out_len);
         }
 
-        let lent_entries = input.entries.clone();
+        let mut lent_entries = Lent::with("entries", &input.entries);
         let got = library::write_head(
-            &lent_entries,
+            lent_entries.lend(),
             input.density,
             input.time,
             input.language,
@@ -407,7 +418,7 @@ impl Differ {
         Both::new(answer, got)
             .lent(out.difference())
             .lent(length.difference())
-            .kept(lent_entries == input.entries, "entries")
+            .lent(lent_entries.difference())
     }
 
     fn count_output(&mut self, head: usize, output: usize) {

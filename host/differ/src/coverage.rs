@@ -28,6 +28,33 @@ const PROGRAM: &[&str] = &[
 
 const ASKING: &[&str] = &["answered", "17"];
 
+/// The numbers of a record that no book gave, as they are lent.
+pub const RECORD: [&str; 11] = [
+    "version of a made-up record",
+    "time of a made-up record",
+    "language of a made-up record",
+    "directory start of a made-up record",
+    "count of a made-up record",
+    "density of a made-up record",
+    "depth of a made-up record",
+    "root of a made-up record",
+    "first of a made-up record",
+    "last of a made-up record",
+    "content start of a made-up record",
+];
+
+/// The numbers of a cursor.
+pub const CURSOR: [&str; 2] = ["chunk of a cursor", "entry of a cursor"];
+
+/// Values that each number of a record and of a cursor has to have had.
+const EXTREMES: [(u64, &str); 5] = [
+    (0, "0"),
+    (0xFFFF_FFFF, "2^32 - 1"),
+    (1 << 32, "2^32"),
+    (1 << 63, "2^63"),
+    (u64::MAX, "2^64 - 1"),
+];
+
 const GROUPS: &[(&str, &[&str])] = &[
     ("open", OPENING),
     ("lookup", &["found", "absent", "15", "16", "17"]),
@@ -160,8 +187,10 @@ impl Coverage {
         let answers = GROUPS
             .iter()
             .flat_map(|(group, names)| names.iter().map(move |name| (*group, *name)));
+        let numbers = RECORD.iter().chain(&CURSOR);
+        let extremes = numbers.flat_map(|group| EXTREMES.map(|(_, name)| (*group, name)));
         let cases = generate::labels().into_iter().map(|label| ("case", label));
-        let order: Vec<_> = answers.chain(cases).collect();
+        let order: Vec<_> = answers.chain(extremes).chain(cases).collect();
         Coverage {
             counts: order.iter().map(|&key| (key, 0)).collect(),
             order,
@@ -172,6 +201,15 @@ impl Coverage {
         match self.counts.get_mut(&(group, name)) {
             Some(count) => *count += 1,
             None => panic!("{group}, {name}: not among what has to come up"),
+        }
+    }
+
+    /// Counts the extremes among these numbers, each in its own group.
+    pub fn count_extremes(&mut self, groups: &[&'static str], numbers: &[u64]) {
+        for (group, number) in groups.iter().zip(numbers) {
+            if let Some((_, name)) = EXTREMES.iter().find(|(value, _)| value == number) {
+                self.count(group, name);
+            }
         }
     }
 

@@ -50,7 +50,7 @@ impl<T: Mark> Lent<T> {
         }
     }
 
-    /// A lent slice that holds these values beforehand, for places that are read too.
+    /// A lent slice that holds these values beforehand, for places that are read.
     pub fn with(name: &'static str, values: &[T]) -> Lent<T> {
         let mut lent = Lent::new(name, values.len());
         lent.places[GUARD..GUARD + values.len()].copy_from_slice(values);

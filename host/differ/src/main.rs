@@ -1,10 +1,13 @@
 //! The static library and the program `list`, compared with the second implementation over seeded
 //! cases. A seed and a number make a case again.
 
+#![deny(unsafe_code)]
+
 mod compare;
 mod coverage;
 mod features;
 mod lent;
+#[allow(unsafe_code)]
 #[path = "../../hodsplinter/src/raw.rs"]
 mod library;
 mod program;

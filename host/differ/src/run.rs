@@ -4,7 +4,7 @@ use crate::compare::{Asked, Differ};
 use crate::{coverage, features, program};
 use second::generate::questions::{about, questions};
 use second::generate::{self, Aim, Call, Case, Input, Random};
-use second::{chunk_entries, encint, open, part, Report, NONE};
+use second::{chunk_entries, entry_bytes, open, Record, NONE};
 use std::path::Path;
 
 /// The program is run on the file of every so many cases.
@@ -79,7 +79,7 @@ fn aim_is_hit(differ: &mut Differ, case: &Case) -> Result<(), String> {
 
 /// On every so many cases, and on all that are about as long as the program takes.
 fn runs_program(case: &Case, index: u64) -> bool {
-    index.is_multiple_of(PROGRAM_RUNS) || (59_999..=60_002).contains(&case.file.len())
+    index % PROGRAM_RUNS == 0 || (59_999..=60_002).contains(&case.file.len())
 }
 
 /// Opens a written head with content behind it, asks it, and lists it whole.
@@ -105,37 +105,43 @@ fn read_back(differ: &mut Differ, random: &mut Random, input: &Input) -> Result<
         Some(record) => record,
         None => return Err(format!("read back: both refuse, {:?}", open(&file))),
     };
+    if listed(&file, record, compare)? != input.entries {
+        return Err("read back: both list other entries than were given".to_owned());
+    }
+    count_read_back(differ, &file, &record);
+    Ok(())
+}
+
+/// The bytes of all entries, chunk by chunk; each chunk is compared.
+fn listed(
+    file: &[u8],
+    record: Record,
+    mut compare: impl FnMut(&Call) -> Result<(), String>,
+) -> Result<Vec<u8>, String> {
     let mut entries = Vec::new();
     let mut chunk = record.first;
-    while let Ok((reports, next)) = chunk_entries(&file, &record, chunk) {
+    while chunk != u64::from(NONE) {
         compare(&Call::Page {
             record,
             chunk,
             numbers: 4070,
         })?;
-        entries.extend(reports.iter().flat_map(|report| entry_bytes(&file, report)));
+        let (reports, next) = chunk_entries(file, &record, chunk)
+            .map_err(|refusal| format!("read back: both refuse chunk {chunk}, {refusal:?}"))?;
+        entries.extend(reports.iter().flat_map(|report| entry_bytes(file, report)));
         chunk = next.into();
     }
-    if chunk != u64::from(NONE) || entries != input.entries {
-        return Err("read back: both list other entries than were given".to_owned());
-    }
+    Ok(entries)
+}
+
+fn count_read_back(differ: &mut Differ, file: &[u8], record: &Record) {
     let chunks = match record.count {
         1 => "1 chunk",
         2..=127 => "several chunks",
         _ => "128 chunks or more",
     };
     differ.coverage.count("head read back", chunks);
-    features::count(&mut differ.coverage, &file, &record);
-    Ok(())
-}
-
-/// An entry's own bytes.
-fn entry_bytes(file: &[u8], report: &Report) -> Vec<u8> {
-    let numbers = [report.section, report.offset, report.size];
-    let mut bytes = encint(report.length);
-    bytes.extend(part(file, report.place, report.length));
-    bytes.extend(numbers.into_iter().flat_map(encint));
-    bytes
+    features::count(&mut differ.coverage, file, record);
 }
 
 /// What was asked, without the file, which a seed and a number make again.

@@ -121,13 +121,13 @@ fn parse_short(
     given: &mut Given,
 ) -> Result<(), Trouble> {
     let mut letters = &word.as_bytes()[1..];
-    while let Some((&letter, rest)) = letters.split_first() {
+    while let Some((&byte, rest)) = letters.split_first() {
         letters = rest;
-        let letter = char::from(letter);
+        let letter = char::from(byte);
         let spec = specs
             .iter()
             .find(|s| s.short == Some(letter))
-            .ok_or_else(|| Trouble::usage(format!("there is no option {}", shown_path(word))))?;
+            .ok_or_else(|| Trouble::usage(format!("there is no option -{}", shown(&[byte]))))?;
         let mut value = OsString::new();
         if spec.value {
             value = match letters {

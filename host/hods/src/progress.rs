@@ -60,7 +60,7 @@ impl Drop for Progress {
     }
 }
 
-/// Whether a file is a terminal: a character device other than the one that swallows all. The standard library can tell only from Rust 1.70 on.
+/// Whether a file is a terminal: a character device other than /dev/null. The standard library can tell only from Rust 1.70 on.
 fn is_terminal(path: &str) -> bool {
     let device = |path| {
         let about = fs::metadata(path).ok()?;

@@ -16,7 +16,7 @@ use crate::text::{read_name, shown_path};
 /// Entries and content for a new book.
 pub struct Source {
     /// What messages call it.
-    pub subject: String,
+    subject: String,
     pub content: Content,
     entries: Vec<Listed>,
 }
@@ -25,7 +25,7 @@ pub struct Source {
 pub enum Content {
     /// Files one behind another, with their lengths.
     Files(Vec<(PathBuf, u64)>),
-    /// Bytes that came through standard input.
+    /// Bytes of what has no length beforehand: standard input, a pipe, a device.
     Bytes(Vec<u8>),
 }
 
@@ -46,6 +46,8 @@ struct Listed {
     section: u16,
     offset: u64,
     length: u64,
+    /// Its line in a list, from 1 on.
+    line: Option<usize>,
 }
 
 impl Listed {
@@ -63,6 +65,19 @@ impl Source {
     pub fn entries(&self) -> Vec<NewEntry<'_>> {
         self.entries.iter().map(Listed::entry).collect()
     }
+
+    /// What messages call an entry's place, or all of it: an entry of a list has a line, and a file's name says where it is.
+    pub fn place(&self, entry: Option<usize>) -> String {
+        let line = entry.and_then(|i| self.entries[i].line);
+        match line {
+            Some(line) => at_line(&self.subject, line),
+            None => self.subject.clone(),
+        }
+    }
+}
+
+fn at_line(subject: &str, line: usize) -> String {
+    format!("{subject}: line {line}")
 }
 
 /// The files of a folder and of the folders in it. Each has its path from the folder, with `/` in front, as its name; they are stored in
@@ -77,6 +92,7 @@ pub fn from_folder(folder: &OsStr, book: &Path) -> Result<Source, Trouble> {
             section: 0,
             offset,
             length,
+            line: None,
         });
         stored.push((path, length));
         offset = u64::saturating_add(offset, length);
@@ -184,19 +200,19 @@ fn read_content(path: &OsStr) -> Result<Content, Trouble> {
 fn read_list(path: &OsStr) -> Result<Vec<Listed>, Trouble> {
     let text = input::read_file(path)?;
     let mut entries = Vec::new();
-    for (i, line) in text.split(|b| *b == b'\n').enumerate() {
+    for (n, line) in (1..).zip(text.split(|b| *b == b'\n')) {
         let line = trimmed(line);
         if line.is_empty() || line.starts_with(b"#") {
             continue;
         }
-        let subject = || format!("{}: line {}", input::called(path), i + 1);
-        entries.push(read_line(line).map_err(|why| Trouble::failed(&subject(), why))?);
+        let trouble = |why| Trouble::failed(&at_line(&input::called(path), n), why);
+        entries.push(read_line(n, line).map_err(trouble)?);
     }
     Ok(entries)
 }
 
 /// A line as `hods list` prints it.
-fn read_line(line: &[u8]) -> Result<Listed, String> {
+fn read_line(n: usize, line: &[u8]) -> Result<Listed, String> {
     let (section, rest) = number(line)?;
     let (offset, rest) = number(rest)?;
     let (length, rest) = number(rest)?;
@@ -207,6 +223,7 @@ fn read_line(line: &[u8]) -> Result<Listed, String> {
         section,
         offset,
         length,
+        line: Some(n),
     })
 }
 
@@ -214,11 +231,13 @@ fn read_line(line: &[u8]) -> Result<Listed, String> {
 fn number(line: &[u8]) -> Result<(u64, &[u8]), String> {
     let end = line.iter().position(u8::is_ascii_whitespace);
     let (word, rest) = line.split_at(end.unwrap_or(line.len()));
-    let digits = word.iter().all(u8::is_ascii_digit);
-    let text = std::str::from_utf8(word).ok().filter(|_| digits);
-    text.and_then(|text| text.parse().ok())
-        .map(|n| (n, trimmed(rest)))
-        .ok_or_else(|| "this is not SECTION OFFSET LENGTH NAME".to_string())
+    let digits = !word.is_empty() && word.iter().all(u8::is_ascii_digit);
+    let word = std::str::from_utf8(word).ok().filter(|_| digits);
+    let word = word.ok_or("this is not SECTION OFFSET LENGTH NAME")?;
+    let n = word
+        .parse()
+        .map_err(|_| format!("{word} is not below 2^63 (FORMAT N3)"))?;
+    Ok((n, trimmed(rest)))
 }
 
 fn trimmed(line: &[u8]) -> &[u8] {

@@ -20,9 +20,12 @@ pub fn shown(name: &[u8]) -> String {
     escape_ends(text)
 }
 
-/// A path as text.
+/// A word of the command line or a path as text; an empty one is made visible.
 pub fn shown_path(path: &OsStr) -> String {
-    shown(path.as_bytes())
+    match path.is_empty() {
+        true => "''".to_string(),
+        false => shown(path.as_bytes()),
+    }
 }
 
 /// Good UTF-8 at the front, the bytes behind it that are not, and the rest.

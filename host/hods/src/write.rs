@@ -39,12 +39,13 @@ pub fn run(given: &Given, _: &mut Output) -> Result<Status, Trouble> {
     };
     let entries = source.entries();
     let head = write_head(entries.iter().copied(), &options)
-        .map_err(|refusal| finding::refused_head(&source.subject, &entries, &options, refusal))?;
+        .map_err(|refusal| finding::refused_head(&source, &entries, &options, refusal))?;
     write_book(target, &head, &source.content, given.has("force"))?;
     Ok(Status::Good)
 }
 
-/// Where the book goes. It is looked at first, since the rest may take long.
+/// Where the book goes. It is looked at first, since the rest may take long. The new file takes the place of the old one by a rename, so a device, a pipe
+/// or a link there would be lost: force is for files.
 fn target(given: &Given) -> Result<&Path, Trouble> {
     let path = match given.value("output") {
         None => return Err(Trouble::usage("write: -o BOOK is missing")),
@@ -53,10 +54,15 @@ fn target(given: &Given) -> Result<&Path, Trouble> {
         }
         Some(path) => Path::new(path),
     };
-    if !given.has("force") && fs::symlink_metadata(path).is_ok() {
-        return Err(exists(path));
+    match fs::symlink_metadata(path) {
+        Ok(about) if !about.is_file() => {
+            let why =
+                "it is there already and is no regular file, and only such a one can be replaced";
+            Err(Trouble::failed(&shown_path(path.as_os_str()), why))
+        }
+        Ok(_) if !given.has("force") => Err(exists(path)),
+        _ => Ok(path),
     }
-    Ok(path)
 }
 
 fn exists(path: &Path) -> Trouble {

@@ -102,11 +102,13 @@ pub struct Steps<'a> {
 impl<'a> Steps<'a> {
     pub(crate) fn from_start(book: Book<'a>) -> Steps<'a> {
         let mut cursor = [0; 2];
-        let refused = sys::start(&book.record().numbers(), &mut cursor) != Ok(true);
+        let told = sys::start(&book.record().numbers(), &mut cursor);
+        // Any record has a start. Steps that are empty instead would lose all entries.
+        assert_eq!(told, Ok(true), "the start of a listing");
         Steps {
             book,
             cursor,
-            refused,
+            refused: false,
         }
     }
 

@@ -135,3 +135,43 @@ impl fmt::Display for Refusal {
 }
 
 impl Error for Refusal {}
+
+#[cfg(test)]
+mod tests {
+    use super::*;
+    use std::collections::HashSet;
+    use std::fs;
+
+    /// The code of a refusal as the C functions give it.
+    fn coded(number: u8, place: u32) -> Refusal {
+        Refusal::from_code(u64::from(number) + 256 * u64::from(place))
+    }
+
+    #[test]
+    fn every_refusal_has_its_sentence_and_rows_of_the_format() {
+        let format = fs::read_to_string("../../docs/FORMAT.md").unwrap();
+        let has = |row: &str| format.contains(&format!("\n| {row} |"));
+        let mut sentences = HashSet::new();
+        for number in 1..=20 {
+            let place = if (8..=12).contains(&number) {
+                7
+            } else {
+                NO_CHUNK
+            };
+            let refusal = coded(number, place);
+            assert_eq!((refusal.number(), refusal.place()), (number, place));
+            assert_eq!(refusal.chunk(), (place == 7).then_some(7));
+            assert!(has(&format!("R{number}")));
+            let mut rows = refusal.rows().split(", ").filter(|row| !row.is_empty());
+            assert!(rows.all(has), "{number}: {}", refusal.rows());
+            let chunk = if place == 7 { " in chunk 7" } else { "" };
+            let front = format!("refusal {number} (FORMAT R{number}){chunk}: ");
+            let sentence = refusal.to_string();
+            assert_eq!(sentence.strip_prefix(&front), Some(refusal.rule()));
+            assert!(sentences.insert(refusal.rule()), "{sentence}");
+        }
+        for number in [0, 21, 29, 254] {
+            assert!(!sentences.contains(coded(number, NO_CHUNK).rule()));
+        }
+    }
+}

@@ -219,21 +219,6 @@ fn refusals_explain_themselves() {
     assert!(error.to_string().ends_with(refusal.rule()));
 }
 
-/// The rows that a refusal names are rows of the format.
-#[test]
-fn rows_of_the_format() {
-    let format = fs::read_to_string("../../docs/FORMAT.md").unwrap();
-    let has = |row: &str| format.contains(&format!("\n| {row} |"));
-    for (place, number) in [(0, 2), (4, 3), (0x40, 4), (0x68, 5), (0x78, 6), (0x8C, 7)] {
-        let mut file = sample("several.chm");
-        file[place] ^= 0x40;
-        let refusal = refused(&file);
-        assert_eq!(refusal.number(), number);
-        assert!(has(&format!("R{number}")));
-        assert!(refusal.rows().split(", ").all(has), "{}", refusal.rows());
-    }
-}
-
 #[test]
 fn books_go_to_other_threads() {
     let file = sample("several.chm");

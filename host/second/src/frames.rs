@@ -27,14 +27,14 @@ fn entry_frames(file: &[u8], record: &Record) -> Vec<Vec<u8>> {
     let mut frames = Vec::new();
     let mut chunk = record.first;
     while let Ok((reports, next)) = chunk_entries(file, record, chunk) {
-        frames.extend(reports.iter().map(|report| entry_frame(file, report)));
+        frames.extend(reports.iter().map(|report| entry_bytes(file, report)));
         chunk = u64::from(next);
     }
     frames
 }
 
 /// An entry's own bytes. A value has one ENCINT (FORMAT N4), so they follow from its numbers.
-fn entry_frame(file: &[u8], report: &Report) -> Vec<u8> {
+pub fn entry_bytes(file: &[u8], report: &Report) -> Vec<u8> {
     let name = part(file, report.place, report.length);
     [
         encint(report.length),

@@ -1,9 +1,11 @@
-//! A second reading of docs/FORMAT.md, the yardstick that the proved library is compared with.
+//! A second reading of docs/FORMAT.md, which the proved library is compared with.
 //!
 //! It shares no code with that library and aims at being plainly right, not at speed: it reads a
 //! whole directory into lists and checks those. `FORMAT` and a label in a comment name a row of
 //! that page. Sums and products of numbers from a book are made in 128 bits, or after their bounds
 //! are known, so nothing wraps (FORMAT N7).
+
+#![forbid(unsafe_code)]
 
 mod ask;
 mod chunk;
@@ -16,7 +18,7 @@ mod write;
 
 pub use ask::{chunk_entries, lookup, part, start, step};
 pub use chunk::quick_words;
-pub use frames::frames;
+pub use frames::{entry_bytes, frames};
 pub use name::compare;
 pub use number::{encint, read_encint};
 pub use open::open;

@@ -167,26 +167,26 @@ fn read_chain(chunks: &[Chunk], record: &Record) -> Option<Vec<u32>> {
     let mut at = record.first as u32;
     loop {
         // No chunk has the number NONE, or another that is not below the count (FORMAT L6).
-        let Chunk::Listing {
-            previous,
-            next,
-            entries,
-        } = chunks.get(at as usize)?
-        else {
-            return None;
+        let (previous, next, entries) = match chunks.get(at as usize)? {
+            Chunk::Listing {
+                previous,
+                next,
+                entries,
+            } => (*previous, *next, entries),
+            Chunk::Index { .. } => return None,
         };
-        if *previous != came_from || on_chain[at as usize] {
+        if previous != came_from || on_chain[at as usize] {
             return None;
         }
         on_chain[at as usize] = true;
         chain.push(at);
         names.push(entries[0].name);
         names.push(entries[entries.len() - 1].name);
-        if *next == NONE {
+        if next == NONE {
             break;
         }
         came_from = at;
-        at = *next;
+        at = next;
     }
 
     let ends_well = u64::from(at) == record.last;

@@ -18,7 +18,7 @@ const CONTENT: u64 = 0x58;
 
 pub fn short(file: Bytes) -> Finding {
     let size = file.len();
-    let found = format!("the file ends with {size} bytes, a book has 96 or more");
+    let found = format!("the file has {size} bytes, a book has 96 or more");
     Finding::new("", size, found)
 }
 

@@ -5,27 +5,33 @@ use std::cmp::Ordering;
 use hodsplinter::{name_order, NewEntry, Options, Refusal};
 
 use super::bytes::Fault;
+use crate::source::Source;
 use crate::status::Trouble;
 use crate::text::shown;
 
+/// A fault, and the number of the entry that has it, where it is one entry's.
+type Found = (Option<usize>, Fault);
+
 /// The message on entries that the writer refused.
 pub fn refused_head(
-    subject: &str,
+    source: &Source,
     entries: &[NewEntry],
     options: &Options,
     refusal: Refusal,
 ) -> Trouble {
     let number = refusal.number();
-    let fault = match number {
+    let found = match number {
         18 => broken(entries, options),
-        19 => Some(too_many(entries.len())),
+        19 => Some((None, too_many(entries.len()))),
         _ => None,
     };
-    let text = match fault {
-        Some((row, found)) => format!("refusal {number} (FORMAT R{number}, {row}): {found}"),
-        None => refusal.to_string(),
-    };
-    Trouble::refused(subject, text)
+    match found {
+        Some((entry, (row, found))) => {
+            let text = format!("refusal {number} (FORMAT R{number}, {row}): {found}");
+            Trouble::refused(&source.place(entry), text)
+        }
+        None => Trouble::refused(&source.place(None), refusal),
+    }
 }
 
 fn too_many(count: usize) -> Fault {
@@ -34,18 +40,20 @@ fn too_many(count: usize) -> Fault {
 }
 
 /// The first rule of W2 that the entries or the numbers break.
-fn broken(entries: &[NewEntry], options: &Options) -> Option<Fault> {
+fn broken(entries: &[NewEntry], options: &Options) -> Option<Found> {
     let length = options.content_length;
     if entries.is_empty() {
         let found = "there is no entry, and a book has one or more".to_string();
-        return Some(("W2", found));
+        return Some((None, ("W2", found)));
     }
     if length >= 1 << 62 {
         let found = format!("the content has {length} bytes, not fewer than 2^62");
-        return Some(("W2", found));
+        return Some((None, ("W2", found)));
     }
-    let alone = entries.iter().find_map(|entry| broken_entry(entry, length));
-    alone.or_else(|| falling(entries))
+    let mut alone = entries.iter().enumerate();
+    alone
+        .find_map(|(i, entry)| Some((Some(i), broken_entry(entry, length)?)))
+        .or_else(|| falling(entries))
 }
 
 fn broken_entry(entry: &NewEntry, content: u64) -> Option<Fault> {
@@ -68,15 +76,18 @@ fn broken_entry(entry: &NewEntry, content: u64) -> Option<Fault> {
     None
 }
 
-fn falling(entries: &[NewEntry]) -> Option<Fault> {
-    entries.windows(2).find_map(|pair| {
-        let (a, b) = (shown(pair[0].name), shown(pair[1].name));
-        match name_order(pair[0].name, pair[1].name) {
-            Ordering::Less => None,
-            Ordering::Equal => Some(("S1", equal(&a, &b))),
-            Ordering::Greater => Some(("W2", format!("{b} stands behind {a}, but names rise"))),
-        }
-    })
+/// The first entry that is not above the one before it.
+fn falling(entries: &[NewEntry]) -> Option<Found> {
+    let order = |pair: &[NewEntry]| name_order(pair[0].name, pair[1].name);
+    let i = entries
+        .windows(2)
+        .position(|pair| order(pair) != Ordering::Less)?;
+    let (a, b) = (shown(entries[i].name), shown(entries[i + 1].name));
+    let fault = match order(&entries[i..]) {
+        Ordering::Equal => ("S1", equal(&a, &b)),
+        _ => ("W2", format!("{b} stands behind {a}, but names rise")),
+    };
+    Some((Some(i + 1), fault))
 }
 
 fn equal(a: &str, b: &str) -> String {

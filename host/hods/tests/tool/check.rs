@@ -36,7 +36,7 @@ fn no_books() {
     folder.put("\x1b[2Jbook", b"?");
     folder.hods(&["check", "empty"]).bad(
         1,
-        &["hods: empty: refusal 1 (FORMAT R1) at 0x0: the file ends with 0 bytes"],
+        &["hods: empty: refusal 1 (FORMAT R1) at 0x0: the file has 0 bytes, a book has 96 or more\n"],
     );
     folder
         .hods(&["check", "text"])

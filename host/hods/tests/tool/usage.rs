@@ -23,21 +23,36 @@ fn help_and_version() {
     assert_eq!(hods(&["list", "--version"]).good(), version);
 }
 
-/// The man page has every command and every option that the help has.
+/// The options that a help text explains, a line each, as `-f, --force` or `--time`.
+fn explained(help: &str) -> impl Iterator<Item = String> + '_ {
+    let lines = help.lines().map(str::trim_start);
+    lines.filter(|line| line.starts_with('-')).map(|line| {
+        let words = line.split(' ').take_while(|word| word.starts_with('-'));
+        words.collect::<Vec<_>>().join(" ")
+    })
+}
+
+/// The man page has every command, and it explains the options that the help does, and no others.
 #[test]
 fn man_page() {
     let path = Path::new(env!("CARGO_MANIFEST_DIR")).join("hods.1");
-    let page = fs::read_to_string(path).unwrap().replace('\\', "");
-    for command in COMMANDS {
-        assert!(page.contains(&format!("hods {command}")), "{command}");
-        let help = hods(&[command, "--help"]);
-        let words = help
-            .good()
-            .split(|c: char| !(c == '-' || c.is_alphanumeric()));
-        for option in words.filter(|word| word.starts_with('-') && word.len() > 1) {
-            assert!(page.contains(option), "{option} of {command}");
+    let page = fs::read_to_string(path).unwrap();
+    // The line behind .TP is what is explained: a macro, and the option with \- for each dash.
+    let mut tagged: Vec<String> = Vec::new();
+    for pair in page.lines().collect::<Vec<_>>().windows(2) {
+        if let (".TP", Some((_, text))) = (pair[0], pair[1].split_once(' ')) {
+            let text = text.replace('\\', "").replace(" \", \" ", ", ");
+            tagged.extend(explained(&text));
         }
     }
+    tagged.sort();
+    let mut options: Vec<String> = explained(hods(&["--help"]).good()).collect();
+    for command in COMMANDS {
+        assert!(page.contains(&format!("hods {command}")), "{command}");
+        options.extend(explained(hods(&[command, "--help"]).good()));
+    }
+    options.sort();
+    assert_eq!(tagged, options);
 }
 
 #[test]
@@ -54,4 +69,7 @@ fn wrong_usage() {
         hods(args).bad(2, &["hods --help"]);
     }
     hods(&["\x07"]).bad(2, &["there is no command \\x07"]);
+    hods(&[""]).bad(2, &["there is no command ''"]);
+    hods(&["check", "-qx", "sample.chm"]).bad(2, &["there is no option -x;"]);
+    hods(&["check", "-q\x1b"]).bad(2, &["there is no option -\\x1b;"]);
 }

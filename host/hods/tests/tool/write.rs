@@ -1,7 +1,8 @@
 //! `hods write`.
 
 use std::fs;
-use std::os::unix::fs::symlink;
+use std::os::unix::fs::{symlink, FileTypeExt};
+use std::process::Command;
 
 use crate::run::{fed, sample, Folder, Ran, FROM_LIST};
 
@@ -137,23 +138,35 @@ fn nothing_is_overwritten_but_by_force() {
     let folder = Folder::new("write-force");
     pages(&folder);
     folder.put("book", b"precious");
-    symlink("nowhere", folder.path("link")).unwrap();
-    for name in ["book", "link", "pages"] {
-        let args = ["write", "-o", name, "pages"];
-        fails(&folder, &args, 2, &[&format!("hods: {name}: "), "--force"]);
-    }
+    let args = ["write", "-o", "book", "pages"];
+    fails(&folder, &args, 2, &["hods: book: it is there", "--force"]);
     assert_eq!(folder.read("book"), b"precious");
     for _ in 0..2 {
         folder.hods(&["write", "-f", "-o", "book", "pages"]).good();
         folder.hods(&["check", "book"]).good();
     }
-    fails(
-        &folder,
-        &["write", "-fo", "pages", "pages"],
-        2,
-        &["pages: "],
-    );
-    assert_eq!(folder.names(), ["book", "link", "pages"]);
+    assert_eq!(folder.names(), ["book", "pages"]);
+}
+
+/// A rename would put a file in the place of a link or a pipe, and of a device as well.
+#[test]
+fn only_files_are_overwritten() {
+    let folder = Folder::new("write-over");
+    pages(&folder);
+    folder.put("file", b"precious");
+    symlink("nowhere", folder.path("nothing")).unwrap();
+    symlink("file", folder.path("link")).unwrap();
+    let made = Command::new("mkfifo").arg(folder.path("pipe")).status();
+    assert!(made.unwrap().success());
+    for name in ["nothing", "link", "pipe", "pages", "."] {
+        for option in ["-o", "-fo"] {
+            let words = [&format!("hods: {name}: it is there"), "no regular file"];
+            fails(&folder, &["write", option, name, "pages"], 2, &words);
+        }
+    }
+    let kind = |name| fs::symlink_metadata(folder.path(name)).unwrap().file_type();
+    assert!(kind("link").is_symlink() && kind("pipe").is_fifo());
+    assert_eq!(folder.read("file"), b"precious");
 }
 
 #[test]
@@ -260,7 +273,11 @@ const NO_LISTS: [(&str, i32, &str); 16] = [
     ("0 0 0x5 /a", 2, "line 1: this is not"),
     ("0 -1 0 /a", 2, "line 1: this is not"),
     ("0 +1 0 /a", 2, "line 1: this is not"),
-    ("0 0 18446744073709551616 /a", 2, "line 1: this is not"),
+    (
+        "0 0 18446744073709551616 /a",
+        2,
+        "line 1: 18446744073709551616 is not below 2^63 (FORMAT N3)",
+    ),
     ("/a", 2, "line 1: this is not"),
     ("\n\n0 0 0 /a\\n", 2, "line 3: \\n is no escape"),
     (
@@ -268,23 +285,23 @@ const NO_LISTS: [(&str, i32, &str); 16] = [
         2,
         "line 1: the section is 65536, above 65535 (FORMAT E5)",
     ),
-    ("0 0 0", 1, "R18, E4"),
+    ("0 0 0", 1, "hods: list: line 1: refusal 18 (FORMAT R18, E4)"),
     (
-        "0 1 5 /a",
+        "0 0 0 /b\n\n0 1 5 /a",
         1,
-        "R18, E6): /a with offset 1 and length 5 is not inside the content, 5 bytes",
+        "hods: list: line 3: refusal 18 (FORMAT R18, E6): /a with offset 1 and length 5 is not inside the content, 5 bytes",
     ),
-    ("1 9223372036854775808 0 /a", 1, "R18, N3"),
+    ("1 9223372036854775808 0 /a", 1, "line 1: refusal 18 (FORMAT R18, N3)"),
     ("0 9223372036854775807 9223372036854775807 /a", 1, "R18, E6"),
     (
         "0 0 0 /a\n0 0 0 /b\n0 0 0 /A",
         1,
-        "R18, S1): the names /a and /A are one name",
+        "hods: list: line 3: refusal 18 (FORMAT R18, S1): the names /a and /A are one name",
     ),
     (
         "0 0 0 /a\n1 1 1 /a",
         1,
-        "R18, S1): the name /a is there twice",
+        "hods: list: line 2: refusal 18 (FORMAT R18, S1): the name /a is there twice",
     ),
 ];
 

@@ -23,7 +23,7 @@ pub fn book_of_depth(random: &mut Random, depth: u32) -> Book {
         _ => random.between(1..=3000),
     };
     let levels = if depth == 2 && random.once_in(6) {
-        brimful_levels(random, density, content_length)
+        full_root_levels(random, density, content_length)
     } else {
         random_levels(random, density, content_length, depth)
     };
@@ -173,7 +173,7 @@ fn listing_chunk(
         names.next();
     }
     if random.once_in(3) {
-        fill_to_the_brim(random, &mut items, room.left());
+        fill_up(random, &mut items, room.left());
     }
     items
 }
@@ -198,7 +198,7 @@ pub fn stored_fields(random: &mut Random, content_length: u64) -> [u64; 3] {
 }
 
 /// Lengthens offsets and lengths until nothing is left free, as far as they go.
-fn fill_to_the_brim(random: &mut Random, items: &mut [Item], mut left: usize) {
+fn fill_up(random: &mut Random, items: &mut [Item], mut left: usize) {
     for item in items {
         if left == 0 {
             return;
@@ -246,8 +246,8 @@ fn keep_first_tree(levels: &mut [Level]) {
 }
 
 /// Depth 2, with a root that has no free byte.
-fn brimful_levels(random: &mut Random, density: u32, content_length: u64) -> Vec<Level> {
-    let lengths = brimful_lengths(random, density);
+fn full_root_levels(random: &mut Random, density: u32, content_length: u64) -> Vec<Level> {
+    let lengths = full_root_lengths(random, density);
     let mut listing = Level::new();
     for (number, &length) in lengths.iter().enumerate() {
         // The first byte sets the order, so the rest is free. Letters are avoided: they fold.
@@ -267,7 +267,7 @@ fn brimful_levels(random: &mut Random, density: u32, content_length: u64) -> Vec
 }
 
 /// Name lengths of index entries with a child of one byte that fill a chunk exactly.
-fn brimful_lengths(random: &mut Random, density: u32) -> Vec<usize> {
+fn full_root_lengths(random: &mut Random, density: u32) -> Vec<usize> {
     loop {
         let c = random.between(4..=60) as usize;
         let words = quick_words(c as u64, density.into()) as usize;
@@ -295,35 +295,7 @@ fn numbered(random: &mut Random, levels: Vec<Level>, density: u32, content_lengt
         _ => random.shuffle(&mut numbers),
     }
     let listing = numbers[..levels[0].len()].to_vec();
-
-    let mut chunks = vec![
-        Planned {
-            links: None,
-            items: Vec::new()
-        };
-        count
-    ];
-    let mut base = 0; // where the numbers of the level start
-    let mut base_below = 0;
-    for (level, planned) in levels.into_iter().enumerate() {
-        let width = planned.len();
-        for (at, mut items) in planned.into_iter().enumerate() {
-            let mut links = None;
-            if level == 0 {
-                let previous = if at > 0 { listing[at - 1] } else { NONE };
-                let next = listing.get(at + 1).copied().unwrap_or(NONE);
-                links = Some((previous, next));
-            } else {
-                for item in &mut items {
-                    let below = base_below + item.fields[0] as usize;
-                    item.fields[0] = numbers[below].into();
-                }
-            }
-            chunks[numbers[base + at] as usize] = Planned { links, items };
-        }
-        base_below = base;
-        base += width;
-    }
+    let chunks = linked(levels, &numbers);
 
     let version = random.pick(&[2, 3, 3]);
     let mut gap = || random.pick(&[0, 0, 1, 8, 23, 24, 100]);
@@ -352,4 +324,37 @@ fn numbered(random: &mut Random, levels: Vec<Level>, density: u32, content_lengt
         cut: None,
         extra: 0,
     }
+}
+
+/// The chunks by their numbers, which are given in the order of the levels; listing chunks are
+/// linked, and index entries get their children.
+fn linked(levels: Vec<Level>, numbers: &[u32]) -> Vec<Planned> {
+    let listing = &numbers[..levels[0].len()];
+    let empty = Planned {
+        links: None,
+        items: Vec::new(),
+    };
+    let mut chunks = vec![empty; numbers.len()];
+    let mut base = 0; // where the numbers of the level start
+    let mut base_below = 0;
+    for (level, planned) in levels.into_iter().enumerate() {
+        let width = planned.len();
+        for (at, mut items) in planned.into_iter().enumerate() {
+            let mut links = None;
+            if level == 0 {
+                let previous = if at > 0 { listing[at - 1] } else { NONE };
+                let next = listing.get(at + 1).copied().unwrap_or(NONE);
+                links = Some((previous, next));
+            } else {
+                for item in &mut items {
+                    let below = base_below + item.fields[0] as usize;
+                    item.fields[0] = numbers[below].into();
+                }
+            }
+            chunks[numbers[base + at] as usize] = Planned { links, items };
+        }
+        base_below = base;
+        base += width;
+    }
+    chunks
 }

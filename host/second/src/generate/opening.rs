@@ -10,10 +10,10 @@ const TWICE: &str = "two damages";
 const FLIPPED: &str = "bits changed";
 const CUT: &str = "file cut";
 const ANY: &str = "any bytes";
-const BRINK: &str = "about as long as the program takes";
+const LIMIT: &str = "about as long as the program takes";
 
 pub fn labels() -> Vec<&'static str> {
-    let mut labels = vec![GOOD, VARIED, TWICE, FLIPPED, CUT, ANY, BRINK];
+    let mut labels = vec![GOOD, VARIED, TWICE, FLIPPED, CUT, ANY, LIMIT];
     labels.extend(damages().map(|damage| damage.label));
     labels
 }
@@ -36,7 +36,7 @@ pub fn case(random: &mut Random) -> Case {
         45..=49 => (FLIPPED, flipped(random), Aim::Free),
         50..=52 => (CUT, cut(random), Aim::Free),
         53 => (ANY, any(random), Aim::Free),
-        _ => brink(random),
+        _ => near_limit(random),
     };
     Case {
         label,
@@ -103,7 +103,7 @@ fn any(random: &mut Random) -> Vec<u8> {
 }
 
 /// A book of 60,000 bytes, which the program takes, or of a few more or less (FORMAT P1).
-fn brink(random: &mut Random) -> (&'static str, Vec<u8>, Aim) {
+fn near_limit(random: &mut Random) -> (&'static str, Vec<u8>, Aim) {
     let length = random.pick(&[59_999, 60_000, 60_000, 60_001, 60_001, 60_002]);
     loop {
         let mut book = book(random);
@@ -115,7 +115,7 @@ fn brink(random: &mut Random) -> (&'static str, Vec<u8>, Aim) {
         let content = length - places.content;
         if content >= book.content.len() {
             book.content.resize(content, 0x5A);
-            return (BRINK, book.bytes(), Aim::Good);
+            return (LIMIT, book.bytes(), Aim::Good);
         }
     }
 }

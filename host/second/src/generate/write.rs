@@ -83,7 +83,7 @@ fn put(room: &mut Room, size: usize, header: usize, density: u32) {
 }
 
 /// Entries of which many just fit into their listing chunk, or just do not.
-fn brimful_listing(random: &mut Random, density: u32) -> Vec<Item> {
+fn tight_listing(random: &mut Random, density: u32) -> Vec<Item> {
     let mut room = Room::new(LISTING_HEADER, density);
     let mut items = Vec::new();
     for number in 0..random.index(150) + 2 {
@@ -95,7 +95,7 @@ fn brimful_listing(random: &mut Random, density: u32) -> Vec<Item> {
 }
 
 /// Entries for full listing chunks, of whose index entries many just fit, or just do not.
-fn brimful_index(random: &mut Random, density: u32) -> Vec<Item> {
+fn tight_index(random: &mut Random, density: u32) -> Vec<Item> {
     let mut index = Room::new(INDEX_HEADER, density);
     let mut items = Vec::new();
     for number in 0..random.pick(&[8, 30, 60, 150]) {
@@ -207,14 +207,14 @@ const WRITES: &[Kind<Writing>] = &[
     Kind {
         label: "head with listing chunks about full",
         change: |random, writing| {
-            writing.replace(brimful_listing(random, writing.input.density));
+            writing.replace(tight_listing(random, writing.input.density));
             writing.lend_enough(random)
         },
     },
     Kind {
         label: "head with index chunks about full",
         change: |random, writing| {
-            writing.replace(brimful_index(random, writing.input.density));
+            writing.replace(tight_index(random, writing.input.density));
             writing.lend_enough(random) // nothing if the tree is too deep
         },
     },
