@@ -1,17 +1,19 @@
 -- The whole head, from its parts (`head-written`), and the writer's answers.
 -- Assumes nothing.
 use mathlib.Core.Path.{_≡_, refl, sym, ap, subst, _∙_}
-use mathlib.Core.Bool.{true, false}
+use mathlib.Core.Bool.{Bool, true, false, _&&_}
 use mathlib.Core.List.{List, _++_, map, flatten, append-assoc}
 use Prim.Native.Nat.{ℕ, _+_, _-_, _*_, _^_, _≤_, _<_, min}
 use native.Mathlib.Omega.{arith}
 use lib.ListN.{length, take, drop, length-append, length-map}
 use lib.Seq.{sets, take-at}
-use borrow.Author.Tests.{le-leb, lt-leb}
+use lib.Dec.{ltb, leb}
+use borrow.Author.Tests.{le-leb, lt-leb, leb-true}
 use Rattle.fields.proofs.Put.{sets-parts}
+use Rattle.fields.proofs.Tests.{and-both, and-no}
 use Rattle.chunk.specs.Chunk.{spacingOf}
 use Rattle.source.specs.Stored.{Stored, storedOf}
-use Rattle.source.specs.Input.{given}
+use Rattle.source.specs.Input.{given, inputRight}
 use Rattle.pack.specs.Starts.{chunksFrom}
 use Rattle.pack.proofs.Levels.{chunks-given}
 use Rattle.compose.proofs.Words.{three}
@@ -20,7 +22,7 @@ use Rattle.layout.specs.Layout.{takes, Layout, layoutOf, layoutFor, chunkCount,
 use Rattle.layout.specs.RoundTrip.{newBook, RoundTrip}
 use Rattle.layout.proofs.RoundTrips.{round-trip}
 use Rattle.head.specs.Head.{refusal, written, outputFor, Worth}
-use Rattle.head.specs.Plan.{Made, LevelFits, IndexFits, indexOf, headersOf, Ready}
+use Rattle.head.specs.Plan.{limits, Made, LevelFits, IndexFits, indexOf, headersOf, Ready}
 use Rattle.head.specs.declared.Written.{Written}
 use Rattle.head.specs.declared.Written.the-variants.{Length}
 use Rattle.layout.proofs.Sizes.{length-file, length-section, length-directory}
@@ -98,7 +100,29 @@ module _ (content : ℕ) (s starts : List ℕ) (n m depth count room : ℕ) (r :
       ∙ ap (λ (t : ℕ). F (length (l .leaves)) t count 0 (C (spacingOf density) (length (l .leaves)))) (w .deep)
       ∙ ap (λ (t : ℕ). F (length (l .leaves)) (depthOf l) t 0 (C (spacingOf density) (length (l .leaves)))) (w .counted))
 
--- ---- the density
+-- ---- what is taken
+
+and-assoc : (a b c : Bool) → (a && (b && c)) ≡ ((a && b) && c)
+and-assoc true b c = refl
+and-assoc false b c = refl
+
+pub limits-dense : (density content : ℕ) → limits density content ≡ true → density ≤ 7
+unfolding limits
+limits-dense density content h = leb-true density 7 (and-both (leb density 7) (ltb content (2 ^ 62)) h .0)
+
+module _ (density content : ℕ) (s : List ℕ) where
+  takes-is : takes density content s ≡ (limits density content && inputRight content s)
+  unfolding takes limits
+  takes-is = and-assoc (leb density 7) (ltb content (2 ^ 62)) (inputRight content s)
+
+  pub takes-both : limits density content ≡ true → inputRight content s ≡ true → takes density content s ≡ true
+  takes-both h i = rw (takes-is, h, i)
+
+  pub takes-limits : limits density content ≡ false → takes density content s ≡ false
+  takes-limits h = rw (takes-is, h)
+
+  pub takes-right : inputRight content s ≡ false → takes density content s ≡ false
+  takes-right h = rw (takes-is, h) (and-no (limits density content))
 
 -- a density that is taken is not cut
 pub spacing-is : (density n : ℕ) → density ≤ 7 → n ≡ spacingOf (min density 16) → n ≡ spacingOf density

@@ -1,6 +1,7 @@
 pub mod Fields
 pub mod Lent
 pub mod Planning
+pub mod Listings
 pub mod Leveled
 pub mod Shaping
 pub mod Lengths

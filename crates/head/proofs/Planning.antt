@@ -1,7 +1,7 @@
--- The loop that plans one level: before each chunk (`Planning`), and what a turn leaves. The cursor is `here`, and chunk j comes next.
+-- The loop that plans one index level: before each chunk (`Planning`), and what a turn leaves. The cursor is `here`, and chunk j comes next.
 -- Assumes nothing.
 use mathlib.Core.Path.{_≡_, refl, sym, ap, _∙_}
-use mathlib.Core.Bool.{Bool}
+use mathlib.Core.Bool.{false}
 use mathlib.Core.List.{List, _∷_, map}
 use Prim.Native.Nat.{ℕ, _+_, _≤_, _<_}
 use native.Mathlib.Omega.{arith}
@@ -17,10 +17,10 @@ use Rattle.pack.specs.declared.Extent.{Extent}
 use Rattle.pack.proofs.Levels.{chunks-none, chunks-more}
 use Rattle.head.specs.Plan.{LevelPlanned}
 
-module _ (content : ℕ) (s : List ℕ) (k : Bool) (n base end : ℕ) (starts₀ : List ℕ) where
+module _ (content : ℕ) (s : List ℕ) (n base end : ℕ) (starts₀ : List ℕ) where
   -- the chunks from a cursor on
   abbrev left : ℕ → List (List Place)
-  left at = chunksFrom content s (take end starts₀) k n at
+  left at = chunksFrom content s (take end starts₀) false n at
 
   pub record Planning (starts : List ℕ) (here j : ℕ) : Type 0 where
     pub behind : end ≤ j
@@ -34,9 +34,9 @@ module _ (content : ℕ) (s : List ℕ) (k : Bool) (n base end : ℕ) (starts₀
   planning-start h = record { behind = omega arith; room = h; kept = refl; front = refl; rest = refl; whole = refl }
 
   module _ (starts : List ℕ) (here j : ℕ) (p : Planning starts here j) where
-    pub planning-end : itemFrom content s (take end starts₀) k here ≡ Bad → LevelPlanned content s k n base end starts₀ starts j
+    pub planning-end : itemFrom content s (take end starts₀) false here ≡ Bad → LevelPlanned content s n base end starts₀ starts j
     planning-end q =
-        let z = chunks-none content s (take end starts₀) k n here q in
+        let z = chunks-none content s (take end starts₀) false n here q in
         record {
           most = omega (arith, p .room);
           count = λ _. omega (arith, ap length z, p .rest);
@@ -44,10 +44,10 @@ module _ (content : ℕ) (s : List ℕ) (k : Bool) (n base end : ℕ) (starts₀
           over = λ o. absurd (omega (arith, p .room));
         }
 
-    module _ (e : Place) (q : itemFrom content s (take end starts₀) k here ≡ Good e) where
-      pub planning-over : length starts ≤ j → LevelPlanned content s k n base end starts₀ starts (length starts + 1)
+    module _ (e : Place) (q : itemFrom content s (take end starts₀) false here ≡ Good e) where
+      pub planning-over : length starts ≤ j → LevelPlanned content s n base end starts₀ starts (length starts + 1)
       planning-over h =
-          let m = chunks-more content s (take end starts₀) k n here e (extentFrom k n 0 0 here (rowsFrom content s (take end starts₀) k here)) q refl in
+          let m = chunks-more content s (take end starts₀) false n here e (extentFrom false n 0 0 here (rowsFrom content s (take end starts₀) false here)) q refl in
           let kept = p .kept in
           record {
             most = omega arith;
@@ -56,10 +56,10 @@ module _ (content : ℕ) (s : List ℕ) (k : Bool) (n base end : ℕ) (starts₀
             over = λ _. omega (arith, ap length (m .0), p .rest);
           }
 
-      pub planning-turn : (f : Extent) → f ≡ extentFrom k n 0 0 here (rowsFrom content s (take end starts₀) k here) → j < length starts
+      pub planning-turn : (f : Extent) → f ≡ extentFrom false n 0 0 here (rowsFrom content s (take end starts₀) false here) → j < length starts
           → Planning (set starts j (e .at)) (f .at) (j + 1)
       planning-turn f is h =
-          let m = chunks-more content s (take end starts₀) k n here e f q is in
+          let m = chunks-more content s (take end starts₀) false n here e f q is in
           let kept = p .kept in
           let behind = p .behind in
           record {

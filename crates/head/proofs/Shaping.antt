@@ -19,7 +19,7 @@ use Rattle.pack.specs.Starts.{chunksFrom, firstAt, Starts, AllStarts}
 use Rattle.pack.proofs.Levels.{chunks-given, chunks-children, starts-of}
 use Rattle.pack.proofs.Above.{upper, above-more, above-none}
 use Rattle.layout.specs.Layout.{layoutOf, chunkCount, depthOf, smallEnough}
-use Rattle.head.specs.Plan.{LevelPlanned, Made}
+use Rattle.head.specs.Plan.{Listed, LevelPlanned, Made}
 use Rattle.fields.proofs.Parts.{part-alike}
 use Rattle.head.proofs.Lent.{written-back, front-kept}
 
@@ -70,23 +70,22 @@ module _ (content : ℕ) (s : List ℕ) (n : ℕ) where
     pub deep : depth + length (levelsAbove n (6 - depth) base gs) ≡ depthOf (layoutOf n (given content s))
     pub final : (f : List ℕ) → take end f ≡ take end starts → AllStarts s f base (gs ∷ levelsAbove n (6 - depth) base gs) → AllStarts s f 0 (leaves ∷ levels)
 
-  module _ (starts₀ starts : List ℕ) (m : ℕ) (kept : length starts₀ ≡ 4096) (same : length starts ≡ length starts₀) (p : LevelPlanned content s true n 0 0 starts₀ starts m) where
-    listing-count : length (chunksFrom content s (take 0 starts₀) true n 0) ≡ length leaves
+  module _ (starts₀ starts : List ℕ) (m : ℕ) (kept : length starts₀ ≡ 4096) (same : length starts ≡ length starts₀) (p : Listed content s n starts₀ starts m) where
+    listing-count : length (chunksFrom content s [] true n 0) ≡ length leaves
     unfolding layoutOf
-    listing-count =
-        sym (length-map (chunksFrom content s (take 0 starts₀) true n 0) (map (storedOf s))) ∙ ap length (chunks-given content s (take 0 starts₀) n)
+    listing-count = sym (length-map (chunksFrom content s [] true n 0) (map (storedOf s))) ∙ ap length (chunks-given content s [] n)
 
     pub first-over : 4096 < m → smallEnough (layoutOf n (given content s)) ≡ false
-    first-over h = too-many n content s (omega (arith, p .over (omega arith), listing-count))
+    first-over h = too-many n content s (omega (arith, p .count, listing-count))
 
     pub shaping-start : m ≤ 4096 → Shaping m starts 1 0 m
     unfolding layoutOf
     shaping-start h =
-        let L = chunksFrom content s (take 0 starts₀) true n 0 in
-        let c = p .count (omega arith) in
+        let L = chunksFrom content s [] true n 0 in
+        let c = p .count in
         let ps : List ℕ = map firstAt L in
         let lp : length ps ≡ length L = length-map L firstAt in
-        let w = p .places (omega arith) in
+        let w = p .places in
         let back : part starts 0 (length leaves) ≡ ps =
         ap (λ (j : ℕ). part starts 0 j) (sym (lp ∙ listing-count)) ∙ ap (λ (y : List ℕ). part y 0 (length ps)) w ∙ written-back starts₀ 0 ps (omega arith) in
         record {
@@ -97,7 +96,7 @@ module _ (content : ℕ) (s : List ℕ) (n : ℕ) where
           kept = omega arith;
           low = omega arith;
           high = omega arith;
-          named = subst (λ (y : List ℕ). Starts s y leaves) (sym back) (subst (Starts s ps) (chunks-given content s (take 0 starts₀) n) (starts-of content s (take 0 starts₀) true n 0));
+          named = subst (λ (y : List ℕ). Starts s y leaves) (sym back) (subst (Starts s ps) (chunks-given content s [] n) (starts-of content s [] true n 0));
           count = omega (arith, listing-count);
           deep = refl;
           final = λ f e a. a;
@@ -139,7 +138,7 @@ module _ (content : ℕ) (s : List ℕ) (n : ℕ) where
       unfolding flatten
       above-count = ap (λ (l : List (List (List Stored))). length (flatten l)) next-level ∙ length-append up (flatten (levelsAbove n (6 - (depth + 1)) end up))
 
-      module _ (after : List ℕ) (next : ℕ) (same : length after ≡ length starts) (q : LevelPlanned content s false n base end starts after next) where
+      module _ (after : List ℕ) (next : ℕ) (same : length after ≡ length starts) (q : LevelPlanned content s n base end starts after next) where
         up-count : length (chunksFrom content s (take end starts) false n base) ≡ length up
         up-count = upper-count content s n starts base end (p .gs) (p .size) (p .inside) (p .named)
 

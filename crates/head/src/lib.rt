@@ -5,6 +5,8 @@ ghost use mathlib.Core.List.{flatten, map};
 ghost use Prim.Native.Nat.{ℕ, _+_, _-_, _*_, _<_, _≤_};
 ghost use lib.ListN.{length, take};
 ghost use lib.Seq.{sets};
+ghost use Rattle.fields.specs.Part.{part};
+ghost use Rattle.names.specs.Names.{below};
 ghost use Rattle.chunk.specs.Chunk.{spacingOf};
 ghost use Rattle.source.specs.Stored.{storedOf};
 ghost use Rattle.source.specs.Source.{rowsFrom};
@@ -14,10 +16,11 @@ ghost use Rattle.pack.specs.Starts.{chunksFrom};
 ghost use Rattle.compose.specs.NewChunk.{newChunk};
 ghost use Rattle.compose.specs.Steps.{groupFrom};
 ghost use Rattle.layout.specs.Headers.{fileHeader, sectionZero, directoryHeader};
-ghost use Rattle.layout.specs.Layout.{takes, layoutOf, layoutFor, prevOf, nextOf, rootOf, chunksOf, headBytes};
+ghost use Rattle.layout.specs.Layout.{layoutOf, layoutFor, prevOf, nextOf, rootOf, chunksOf, headBytes};
 ghost use Rattle.head.specs.Head.{written, outputFor, Worth};
-ghost use Rattle.head.specs.Plan.{LevelPlanned, Planned, LevelFits, IndexFits, indexOf, headersOf, Ready};
+ghost use Rattle.head.specs.Plan.{limits, Next, openWith, startsWith, ListingPlanned, LevelPlanned, Planned, LevelFits, IndexFits, indexOf, headersOf, Ready};
 use book::Refusal;
+use entries::Place;
 use pack::Extent;
 use source::Cursor;
 use source::Taken;
@@ -28,10 +31,25 @@ pub enum Written {
     Refused(Refusal),
 }
 
+// The listing chunks so far, as the input is read: their number, and the entries of the last one with their bytes.
+struct Open {
+    chunks: usize,
+    count: usize,
+    bytes: usize,
+}
+
+// The number of listing chunks; or the input is not one that the writer takes.
+enum Leaves {
+    Count(usize),
+    Bad,
+}
+
 // What is known of the chunks before any is written: the number of listing chunks, the depth, the number of all chunks. Or there are too many.
+// Or the input is not one that the writer takes.
 enum Shape {
     Chunks(usize, usize, usize),
     TooMany,
+    Bad,
 }
 
 fn refusal(number: u8) -> Written
@@ -43,9 +61,9 @@ fn refusal(number: u8) -> Written
     })
 }
 
-// Whether the writer takes its inputs.
-fn is_taken(entries: &[u8], density: u32, content: u64) -> bool
-    ensures { λ r. ⌜ r ≡ takes density content (now (entries .entry)) ⌝ }
+// Whether the writer takes a density and a content length.
+fn is_taken(density: u32, content: u64) -> bool
+    ensures { λ r. ⌜ r ≡ limits density content ⌝ }
 {
     if 7 < density {
         return false;
@@ -53,24 +71,98 @@ fn is_taken(entries: &[u8], density: u32, content: u64) -> bool
     if 0x3FFF_FFFF_FFFF_FFFF < content {
         return false;
     }
-    source::is_good(entries, content)
+    true
 }
 
-// Stores the places of the first names of the chunks of a level, which are numbered from `end` on; `starts` has those of the chunks before.
+// Whether the n bytes at `start` are a name that comes after the one of `len` bytes at `from`.
+fn rises(input: &[u8], from: usize, len: usize, start: usize, n: usize) -> bool
+    requires { ⌜ (from + len ≤ length (now input)) × (start + n ≤ length (now input)) ⌝ }
+    ensures { λ r. ⌜ r ≡ below (part (now (input .entry)) from len) (part (now (input .entry)) start n) ⌝ }
+{
+    names::is_below(&input[from..from + len], &input[start..start + n])
+}
+
+// One listing entry more: in the last chunk where it fits, else as the first of a new one. Then its place is stored, where `starts` has room.
+fn add(starts: &mut [usize], n: usize, f: Open, e: Place) -> Open
+    requires { ⌜ Next f e ⌝ }
+    ensures { λ r. ⌜ (r ≡ openWith n f e) × (now (starts .exit) ≡ startsWith n f e (now (starts .entry))) ⌝ }
+{
+    let size = pack::entry_size(true, e);
+    let bytes = f.bytes + size;
+    if pack::fits(true, n, f.count, bytes) {
+        return Open {
+            chunks: f.chunks,
+            count: f.count + 1,
+            bytes,
+        };
+    }
+    let j = f.chunks;
+    let next = Open {
+        chunks: j + 1,
+        count: 1,
+        bytes: size,
+    };
+    if starts.len() <= j {
+        return next;
+    }
+    starts[j] = e.at;
+    next
+}
+
+// Checks the input and plans the listing level, in one pass: the input is one good entry or more, one directly behind another to its end, with
+// names that rise. Too many chunks are counted on, since a fault of the input goes before them.
+fn plan_listing(input: &[u8], content: u64, n: usize, starts: &mut [usize]) -> Leaves
+    ensures { λ r. ⌜ ListingPlanned content (now (input .entry)) n (now (starts .entry)) (now (starts .exit)) r ⌝ }
+{
+    if input.len() == 0 {
+        return Leaves::Bad;
+    }
+    let mut c = Cursor {
+        listing: true,
+        at: 0,
+    };
+    let mut from: usize = 0;
+    let mut len: usize = 0;
+    // no chunk yet: as behind a full one
+    let mut f = Open {
+        chunks: 0,
+        count: 0,
+        bytes: 4096,
+    };
+    loop {
+        let Taken::Entry(e, next) = source::step(input, &[], content, c) else {
+            if c.at == input.len() {
+                return Leaves::Count(f.chunks);
+            }
+            return Leaves::Bad;
+        };
+        if !rises(input, from, len, e.start, e.len) {
+            return Leaves::Bad;
+        }
+        f = add(starts, n, f, e);
+        from = e.start;
+        len = e.len;
+        c = next;
+    }
+}
+
+// Stores the places of the first names of the chunks of an index level, which are numbered from `end` on; `starts` has those of the chunks before.
 // Returns the number behind the last; one more than `starts` has, where it has too few.
 fn plan_level(
     input: &[u8],
     content: u64,
     n: usize,
     starts: &mut [usize],
-    listing: bool,
     base: usize,
     end: usize,
 ) -> usize
     requires { ⌜ (end ≤ length (now starts)) × (length (now starts) ≤ 4096) ⌝ }
-    ensures { λ r. ⌜ LevelPlanned content (now (input .entry)) listing n base end (now (starts .entry)) (now (starts .exit)) r ⌝ }
+    ensures { λ r. ⌜ LevelPlanned content (now (input .entry)) n base end (now (starts .entry)) (now (starts .exit)) r ⌝ }
 {
-    let mut c = Cursor { listing, at: base };
+    let mut c = Cursor {
+        listing: false,
+        at: base,
+    };
     let mut j = end;
     loop {
         let Taken::Entry(e, _) = source::step(input, &starts[..end], content, c) else {
@@ -81,17 +173,23 @@ fn plan_level(
         }
         let f = pack::fill(input, &starts[..end], content, c, n);
         starts[j] = e.at;
-        c = Cursor { listing, at: f.at };
+        c = Cursor {
+            listing: false,
+            at: f.at,
+        };
         j += 1;
     }
 }
 
-// Plans all levels: the listing chunks, then index levels until one has a single chunk. `starts` then has the place of each chunk's first name.
+// Checks the input and plans all levels: the listing chunks, then index levels until one has a single chunk. `starts` then has the place of
+// each chunk's first name.
 fn plan(input: &[u8], content: u64, n: usize, starts: &mut [usize]) -> Shape
     requires { ⌜ length (now starts) ≡ 4096 ⌝ }
     ensures { λ r. ⌜ Planned content (now (input .entry)) n (now (starts .exit)) r ⌝ }
 {
-    let m = plan_level(input, content, n, starts, true, 0, 0);
+    let Leaves::Count(m) = plan_listing(input, content, n, starts) else {
+        return Shape::Bad;
+    };
     if starts.len() < m {
         return Shape::TooMany;
     }
@@ -102,7 +200,7 @@ fn plan(input: &[u8], content: u64, n: usize, starts: &mut [usize]) -> Shape
         if depth == 5 {
             return Shape::TooMany;
         }
-        let next = plan_level(input, content, n, starts, false, base, end);
+        let next = plan_level(input, content, n, starts, base, end);
         if starts.len() < next {
             return Shape::TooMany;
         }
@@ -333,30 +431,34 @@ pub fn write_head(
     ensures output { λ r. ⌜ now (out .exit) ≡ outputFor r (headBytes density time language «content_length» (layoutFor density «content_length» (now (entries .entry)))) (now (out .entry)) ⌝ }
     ensures worth { λ r. ⌜ Worth r density time language «content_length» (now (entries .entry)) (now (out .exit)) ⌝ }
 {
-    if !is_taken(entries, density, content_length) {
+    if !is_taken(density, content_length) {
         return refusal(18);
     }
     let n = chunk::spacing(density as u64);
     let mut starts = [0usize; 4096];
-    let Shape::Chunks(m, depth, count) = plan(entries, content_length, n, &mut starts) else {
-        return refusal(19);
-    };
-    let len = 204 + 4096 * count;
-    if out.len() < len {
-        return refusal(20);
+    let shape = plan(entries, content_length, n, &mut starts);
+    match shape {
+        Shape::Bad => refusal(18),
+        Shape::TooMany => refusal(19),
+        Shape::Chunks(m, depth, count) => {
+            let len = 204 + 4096 * count;
+            if out.len() < len {
+                return refusal(20);
+            }
+            put_head(
+                out,
+                entries,
+                &starts,
+                n,
+                density,
+                time,
+                language,
+                content_length,
+                m,
+                depth,
+                count,
+            );
+            Written::Length(len as u64)
+        }
     }
-    put_head(
-        out,
-        entries,
-        &starts,
-        n,
-        density,
-        time,
-        language,
-        content_length,
-        m,
-        depth,
-        count,
-    );
-    Written::Length(len as u64)
 }

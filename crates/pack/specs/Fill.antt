@@ -4,6 +4,7 @@ use Prim.Native.Nat.{ℕ, _+_}
 use mathlib.Core.Bool.{Bool, true, false, cond}
 use mathlib.Core.List.{List, [], _∷_}
 use lib.ListN.{length}
+use lib.Dec.{leb}
 use Rattle.encint.specs.Encint.{encoded}
 use Rattle.entries.specs.declared.Place.{Place}
 use Rattle.pack.specs.Groups.{fits}
@@ -16,6 +17,10 @@ unfoldable pub rowSize : Bool → Place → ℕ
 rowSize true e =
     length (encoded (e .len)) + e .len + length (encoded (e .section)) + length (encoded (e .offset)) + length (encoded (e .size))
 rowSize false e = length (encoded (e .len)) + e .len + length (encoded (e .child))
+
+-- the same for an entry of any length: one whose name is longer than a chunk counts as 4,097 bytes, so that the sum stays small
+unfoldable pub sizeOf : Bool → Place → ℕ
+sizeOf k e = cond (leb (e .len) 4096) (rowSize k e) 4097
 
 -- a chunk has c entries of b bytes: the one that it takes next, with the bytes up to its end
 unfoldable pub fitOf : Bool → ℕ → ℕ → ℕ → List Place → Fit

@@ -1,10 +1,10 @@
 // Where chunks are cut: how many entries a chunk takes.
 ghost use mathlib.Core.Path.{_≡_};
-ghost use Prim.Native.Nat.{_+_, _≤_};
+ghost use Prim.Native.Nat.{_+_};
 ghost use Rattle.chunk.specs.Chunk.{quickCount};
 ghost use Rattle.source.specs.Source.{rowsFrom};
 ghost use Rattle.pack.specs.Groups.{fits as fitsIn};
-ghost use Rattle.pack.specs.Fill.{rowSize, fitOf, extentFrom};
+ghost use Rattle.pack.specs.Fill.{sizeOf, fitOf, extentFrom};
 use entries::Place;
 use source::Cursor;
 use source::Taken;
@@ -33,10 +33,12 @@ fn quick_words(count: usize, n: usize) -> usize
 }
 
 // Whether an entry behind `count` others fits a chunk, where all of them have `bytes` bytes.
-fn fits(listing: bool, n: usize, count: usize, bytes: usize) -> bool
-    requires { ⌜ bytes ≤ 65536 ⌝ }
+pub fn fits(listing: bool, n: usize, count: usize, bytes: usize) -> bool
     ensures { λ r. ⌜ r ≡ fitsIn listing n (count + 1) bytes ⌝ }
 {
+    if 4096 < bytes {
+        return false;
+    }
     let words = quick_words(count, n);
     if 2047 < words {
         return false;
@@ -44,11 +46,13 @@ fn fits(listing: bool, n: usize, count: usize, bytes: usize) -> bool
     chunk::head(listing) + bytes + (2 * words + 2) <= 4096
 }
 
-// How many bytes an entry takes where it is written from its numbers.
-fn entry_size(listing: bool, e: Place) -> usize
-    requires { ⌜ e .len ≤ 1024 ⌝ }
-    ensures { λ r. ⌜ r ≡ rowSize listing e ⌝ }
+// How many bytes an entry takes where it is written from its numbers; 4,097 where its name alone is longer than a chunk.
+pub fn entry_size(listing: bool, e: Place) -> usize
+    ensures { λ r. ⌜ r ≡ sizeOf listing e ⌝ }
 {
+    if 4096 < e.len {
+        return 4097;
+    }
     let name = encint::size(e.len as u64) + e.len;
     if listing {
         return name + encint::size(e.section) + encint::size(e.offset) + encint::size(e.size);

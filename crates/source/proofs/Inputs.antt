@@ -1,4 +1,4 @@
--- The pass over the input, as its loop has it: the entries that are left, with the place of the next one and the name before it.
+-- A pass over the input, as a loop has it: the entries that are left, with the place of the next one and the name before it.
 -- Assumes nothing.
 use mathlib.Core.Path.{_≡_, refl, sym}
 use mathlib.Core.List.{List, [], _∷_, map}

@@ -1,11 +1,6 @@
-// The entries that a level of chunks is made of, one at a time, and the rules on those that the writer is given.
+// The entries that a level of chunks is made of, one at a time.
 ghost use mathlib.Core.Path.{_≡_};
-ghost use Prim.Native.Nat.{_+_, _≤_};
-ghost use lib.ListN.{length};
-ghost use Rattle.fields.specs.Part.{part};
-ghost use Rattle.names.specs.Names.{below};
 ghost use Rattle.source.specs.Source.{childAt, itemFrom, takenOf};
-ghost use Rattle.source.specs.Input.{inputRight};
 use encint::Number;
 use entries::Item;
 use entries::Place;
@@ -73,38 +68,4 @@ pub fn step(input: &[u8], starts: &[usize], content: u64, from: Cursor) -> Taken
             at: e.next,
         },
     )
-}
-
-// Whether the n bytes at `start` are a name that comes after the one of `len` bytes at `from`.
-fn rises(input: &[u8], from: usize, len: usize, start: usize, n: usize) -> bool
-    requires { ⌜ (from + len ≤ length (now input)) × (start + n ≤ length (now input)) ⌝ }
-    ensures { λ r. ⌜ r ≡ below (part (now (input .entry)) from len) (part (now (input .entry)) start n) ⌝ }
-{
-    names::is_below(&input[from..from + len], &input[start..start + n])
-}
-
-// Whether the input is one good entry or more, one directly behind another to its end, with names that rise.
-pub fn is_good(input: &[u8], content: u64) -> bool
-    ensures { λ r. ⌜ r ≡ inputRight content (now (input .entry)) ⌝ }
-{
-    if input.len() == 0 {
-        return false;
-    }
-    let mut c = Cursor {
-        listing: true,
-        at: 0,
-    };
-    let mut from: usize = 0;
-    let mut len: usize = 0;
-    loop {
-        let Taken::Entry(e, next) = step(input, &[], content, c) else {
-            return c.at == input.len();
-        };
-        if !rises(input, from, len, e.start, e.len) {
-            return false;
-        }
-        from = e.start;
-        len = e.len;
-        c = next;
-    }
 }

@@ -1,5 +1,6 @@
 -- `head::plan_level` meets its contract. Assumes nothing.
 use mathlib.Core.Path.{_≡_, refl, sym, _∙_}
+use mathlib.Core.Bool.{false}
 use Prim.Native.Nat.{_-_}
 use native.Mathlib.Omega.{arith}
 use lib.ListN.{length, take}
@@ -15,30 +16,30 @@ use Rattle.head.proofs.plan_level.Statement.{statement}
 use Rattle.head.proofs.plan_level.Tie as tie
 
 abbrev Inv-loop : tie.InvT-loop
-Inv-loop input content n starts₀ listing base end c₀ j₀ starts c j = (c .listing ≡ listing) × Planning content input listing n base end starts₀ starts (c .at) j
+Inv-loop input content n starts₀ base end c₀ j₀ starts c j = (c .listing ≡ false) × Planning content input n base end starts₀ starts (c .at) j
 
 abbrev μ-loop : tie.MeasureT-loop
-μ-loop input content n starts₀ listing base end c₀ j₀ starts c j = length starts₀ - j
+μ-loop input content n starts₀ base end c₀ j₀ starts c j = length starts₀ - j
 
 -- what stands at the cursor
 read-is : (c : tie.After-e Inv-loop μ-loop) → let l = c .before .before .before .before in let a = l .before .before .before .args in
-    itemFrom (a .content) (now (a .input)) (take (a .end) (now (a .starts))) (a .listing) (l .loop .c .at) ≡ Good (c .e .given .0 .0)
+    itemFrom (a .content) (now (a .input)) (take (a .end) (now (a .starts))) false (l .loop .c .at) ≡ Good (c .e .given .0 .0)
 read-is c =
     let l = c .before .before .before .before .loop in
     taken-entry _ _ _ _ (sym (rw (l .inv .0, l .inv .1 .front) at (c .before .before .step .ensures)) ∙ c .e .given .1) .0
 
 bad-is : (c : tie.After-enum-told Inv-loop μ-loop) → let l = c .before .before .before .before in let a = l .before .before .before .args in
-    itemFrom (a .content) (now (a .input)) (take (a .end) (now (a .starts))) (a .listing) (l .loop .c .at) ≡ Bad
+    itemFrom (a .content) (now (a .input)) (take (a .end) (now (a .starts))) false (l .loop .c .at) ≡ Bad
 bad-is c =
     let l = c .before .before .before .before .loop in
     taken-end _ _ (sym (rw (l .inv .0, l .inv .1 .front) at (c .before .before .step .ensures)) ∙ c .enum-told .given .1)
 
 fill-is : (c : tie.After-fill Inv-loop μ-loop) → let l = c .before .before .before .before .before .before .before .before in let a = l .before .before .before .args in
-    c .fill .result ≡ extentFrom (a .listing) (a .n) 0 0 (l .loop .c .at) (rowsFrom (a .content) (now (a .input)) (take (a .end) (now (a .starts))) (a .listing) (l .loop .c .at))
+    c .fill .result ≡ extentFrom false (a .n) 0 0 (l .loop .c .at) (rowsFrom (a .content) (now (a .input)) (take (a .end) (now (a .starts))) false (l .loop .c .at))
 fill-is c = let l = c .before .before .before .before .before .before .before .before .loop in rw (l .inv .0, l .inv .1 .front) at (c .fill .ensures)
 
 loop-holds : tie.Need-loop-holds Inv-loop μ-loop
-loop-holds c = (refl, planning-start _ _ _ _ _ _ _ (c .before .before .pre .0))
+loop-holds c = (refl, planning-start _ _ _ _ _ _ (c .before .before .pre .0))
 
 slice-reshare-prefix-step : tie.Need-slice-reshare-prefix-step Inv-loop μ-loop
 slice-reshare-prefix-step c = search needs
@@ -59,7 +60,7 @@ same-length : tie.Need-same-length Inv-loop μ-loop
 same-length c = c .before .before .before .before .loop .inv .1 .kept
 
 returns : tie.Need-returns Inv-loop μ-loop
-returns c = planning-end _ _ _ _ _ _ _ _ _ _ (c .before .before .before .before .loop .inv .1) (bad-is c)
+returns c = planning-end _ _ _ _ _ _ _ _ _ (c .before .before .before .before .loop .inv .1) (bad-is c)
 
 add-result : tie.Need-add-result Inv-loop μ-loop
 add-result c = search needs
@@ -68,7 +69,7 @@ same-length-2 : tie.Need-same-length-2 Inv-loop μ-loop
 same-length-2 c = c .before .before .before .before .before .before .loop .inv .1 .kept
 
 returns-2 : tie.Need-returns-2 Inv-loop μ-loop
-returns-2 c = planning-over _ _ _ _ _ _ _ _ _ _ (c .before .before .before .before .before .before .loop .inv .1) _ (read-is (c .before .before)) (c .if1 .taken)
+returns-2 c = planning-over _ _ _ _ _ _ _ _ _ (c .before .before .before .before .before .before .loop .inv .1) _ (read-is (c .before .before)) (c .if1 .taken)
 
 slice-reshare-prefix-fill : tie.Need-slice-reshare-prefix-fill Inv-loop μ-loop
 slice-reshare-prefix-fill c = search needs
@@ -92,7 +93,7 @@ loop-less : tie.Need-loop-less Inv-loop μ-loop
 loop-less c = search needs
 
 loop-again : tie.Need-loop-again Inv-loop μ-loop
-loop-again c = (refl, planning-turn _ _ _ _ _ _ _ _ _ _ (c .before .before .before .before .before .before .before .before .loop .inv .1) _ (read-is (c .before .before .before .before)) _ (fill-is c) (c .before .before .if1 .left))
+loop-again c = (refl, planning-turn _ _ _ _ _ _ _ _ _ (c .before .before .before .before .before .before .before .before .loop .inv .1) _ (read-is (c .before .before .before .before)) _ (fill-is c) (c .before .before .if1 .left))
 
 pub plan-level-spec : {M : Type 1} → statement M
 plan-level-spec =

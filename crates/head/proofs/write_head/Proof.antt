@@ -10,23 +10,28 @@ use Rattle.layout.specs.Layout.{takes}
 use Rattle.layout.proofs.Taken.{takes-told, some-leaves}
 use Rattle.layout.proofs.Filled.{list-whole}
 use Rattle.layout.proofs.Places.{length-head}
-use Rattle.head.specs.Plan.{Made}
-use Rattle.head.proofs.Answers.{answer-18, answer-19, answer-20, answer-head, small-is, spacing-is}
+use Rattle.head.specs.Plan.{limits, Made}
+use Rattle.head.proofs.Answers.{limits-dense, takes-both, takes-limits, takes-right, answer-18, answer-19, answer-20, answer-head, small-is, spacing-is}
 use borrow.Author.Needs.{needs}
 use Rattle.head.proofs.write_head.Statement.{statement}
 use Rattle.head.proofs.write_head.Tie as tie
 
--- the inputs are taken
-taken : (c : tie.Else1) → let a = c .before .before .before .before .args in takes (a .density) (a .content-length) (now (a .entries)) ≡ true
-taken c = held (c .before .is-taken .ensures) (c .if1 .left)
+-- density and content length are taken
+within : (c : tie.Else1) → let a = c .before .before .before .before .args in limits (a .density) (a .content-length) ≡ true
+within c = held (c .before .is-taken .ensures) (c .if1 .left)
 
 spaced : (c : tie.After-spacing) → c .spacing .result ≡ spacingOf (c .before .before .before .before .before .args .density)
-spaced c = spacing-is _ _ (takes-told _ _ _ (taken (c .before)) .dense) (c .spacing .ensures)
+spaced c = spacing-is _ _ (limits-dense _ _ (within (c .before))) (c .spacing .ensures)
+
+-- so is the input
+taken : (c : tie.After-shape) → let a = c .before .before .before .before .before .before .before .before .before .before .args in
+    takes (a .density) (a .content-length) (now (a .entries)) ≡ true
+taken c = takes-both _ _ _ (within (c .before .before .before .before .before .before)) ((rw (c .shape .given .1) at (c .before .before .before .plan .ensures)) .0)
 
 -- the levels are planned
-made : (c : tie.After-m) → let a = c .before .before .before .before .before .before .before .before .before .before .args in let v = c .m .given .0 in
+made : (c : tie.After-shape) → let a = c .before .before .before .before .before .before .before .before .before .before .args in let v = c .shape .given .0 in
     Made (a .content-length) (now (a .entries)) (spacingOf (a .density)) (c .before .before .before .plan .last .1 .1 .1 .0) (v .0) (v .1 .0) (v .1 .1 .0)
-made c = rw (spaced (c .before .before .before .before .before)) at (rw (c .m .given .1) at (c .before .before .before .plan .ensures))
+made c = rw (spaced (c .before .before .before .before .before)) at ((rw (c .shape .given .1) at (c .before .before .before .plan .ensures)) .1)
 
 is-taken-requires : tie.Need-is-taken-requires
 is-taken-requires c κs = search needs
@@ -35,7 +40,7 @@ refusal-requires : tie.Need-refusal-requires
 refusal-requires c κs = search needs
 
 returns : tie.Need-returns
-returns c = let a = c .before .before .before .before .before .args in answer-18 (now (a .entries)) (a .density) (a .time) (a .language) (a .content-length) (now (a .out)) _ (c .refusal .ensures) (failed (c .before .before .is-taken .ensures) (c .before .if1 .taken))
+returns c = let a = c .before .before .before .before .before .args in answer-18 (now (a .entries)) (a .density) (a .time) (a .language) (a .content-length) (now (a .out)) _ (c .refusal .ensures) (takes-limits _ _ (now (a .entries)) (failed (c .before .before .is-taken .ensures) (c .before .if1 .taken)))
 
 spacing-requires : tie.Need-spacing-requires
 spacing-requires c κs = search needs
@@ -46,17 +51,20 @@ slice-aggregate-plan c = search needs
 plan-requires : tie.Need-plan-requires
 plan-requires c κs = search needs
 
-enum-known-m : tie.Need-enum-known-m
-enum-known-m c = search needs
-
 enum-told : tie.Need-enum-told
 enum-told c = search needs
 
 refusal-requires-2 : tie.Need-refusal-requires-2
 refusal-requires-2 c κs = search needs
 
-returns-2 : tie.Need-returns-2
-returns-2 c = let a = c .before .before .before .before .before .before .before .before .before .before .before .args in answer-19 (now (a .entries)) (a .density) (a .time) (a .language) (a .content-length) (now (a .out)) _ (c .refusal2 .ensures) (taken (c .before .before .before .before .before .before .before)) (rw (spaced (c .before .before .before .before .before .before)) at (rw (c .before .enum-told .given .1) at (c .before .before .before .before .plan .ensures)))
+enum-told-2 : tie.Need-enum-told-2
+enum-told-2 c = search needs
+
+refusal-requires-3 : tie.Need-refusal-requires-3
+refusal-requires-3 c κs = search needs
+
+enum-known-shape : tie.Need-enum-known-shape
+enum-known-shape c = search needs
 
 mul-len : tie.Need-mul-len
 mul-len c = omega (arith, made (c .before) .small)
@@ -64,14 +72,14 @@ mul-len c = omega (arith, made (c .before) .small)
 add-len : tie.Need-add-len
 add-len c = omega (arith, made (c .before) .small)
 
-refusal-requires-3 : tie.Need-refusal-requires-3
-refusal-requires-3 c κs = search needs
+refusal-requires-4 : tie.Need-refusal-requires-4
+refusal-requires-4 c κs = search needs
 
-returns-3 : tie.Need-returns-3
-returns-3 c =
+returns-2 : tie.Need-returns-2
+returns-2 c =
     let w = made (c .before .before .before) in
     let a = c .before .before .before .before .before .before .before .before .before .before .before .before .before .args in
-    answer-20 (now (a .entries)) (a .density) (a .time) (a .language) (a .content-length) (now (a .out)) (taken (c .before .before .before .before .before .before .before .before .before)) (small-is _ _ _ _ _ _ _ w) _ (w .counted) _ (c .refusal3 .ensures) (c .before .if2 .taken)
+    answer-20 (now (a .entries)) (a .density) (a .time) (a .language) (a .content-length) (now (a .out)) (taken (c .before .before .before)) (small-is _ _ _ _ _ _ _ w) _ (w .counted) _ (c .refusal4 .ensures) (c .before .if2 .taken)
 
 slice-aggregate-put-head : tie.Need-slice-aggregate-put-head
 slice-aggregate-put-head c = search needs
@@ -79,7 +87,7 @@ slice-aggregate-put-head c = search needs
 put-head-requires : tie.Need-put-head-requires
 put-head-requires c κs =
     let a = c .before .before .before .before .before .before .before .before .before .before .before .before .before .before .args in
-    let t = taken (c .before .before .before .before .before .before .before .before .before .before) in
+    let t = taken (c .before .before .before .before) in
     let w = made (c .before .before .before .before) in
     let g = takes-told _ _ _ t in
     let n = spaced (c .before .before .before .before .before .before .before .before .before) in (
@@ -92,12 +100,25 @@ put-head-requires c κs =
       (n, g .small),
     )
 
-same-length : tie.Need-same-length
-same-length c = search needs
+returns-3 : tie.Need-returns-3
+returns-3 c =
+    let p = c .before .before .before .before in
+    let a = p .before .before .before .before .before .before .before .args in
+    answer-18 (now (a .entries)) (a .density) (a .time) (a .language) (a .content-length) (now (a .out)) _ (c .refusal2 .ensures) (takes-right _ _ _ (rw (c .before .enum-told .given .1) at (p .plan .ensures)))
 
 returns-4 : tie.Need-returns-4
 returns-4 c =
-    let t = taken (c .before .before .before .before .before .before .before .before .before .before .before .before .before) in
+    let p = c .before .before .before .before in
+    let a = p .before .before .before .before .before .before .before .args in
+    let q = rw (c .before .enum-told2 .given .1) at (p .plan .ensures) in
+    answer-19 (now (a .entries)) (a .density) (a .time) (a .language) (a .content-length) (now (a .out)) _ (c .refusal3 .ensures) (takes-both _ _ _ (within (p .before .before .before)) (q .0)) (rw (spaced (p .before .before)) at (q .1))
+
+same-length : tie.Need-same-length
+same-length c = search needs
+
+returns-5 : tie.Need-returns-5
+returns-5 c =
+    let t = taken (c .before .before .before .before .before .before .before) in
     let w = made (c .before .before .before .before .before .before .before) in
     let a = c .before .before .before .before .before .before .before .before .before .before .before .before .before .before .before .before .before .args in
     answer-head (now (a .entries)) (a .density) (a .time) (a .language) (a .content-length) (now (a .out)) t (small-is _ _ _ _ _ _ _ w) _ (w .counted) (c .before .before .before .before .before .before .before .before .before .before .before .before .before .before .before .before .before .fits .time .fits) (c .before .before .before .before .before .before .before .before .before .before .before .before .before .before .before .before .before .fits .language .fits) _ (c .before .before .before .before .before .if2 .left)
@@ -114,15 +135,18 @@ write-head-spec =
     spacing-requires
     slice-aggregate-plan
     plan-requires
-    enum-known-m
     enum-told
     refusal-requires-2
-    returns-2
+    enum-told-2
+    refusal-requires-3
+    enum-known-shape
     mul-len
     add-len
-    refusal-requires-3
-    returns-3
+    refusal-requires-4
+    returns-2
     slice-aggregate-put-head
     put-head-requires
+    returns-3
+    returns-4
     same-length
-    returns-4)
+    returns-5)

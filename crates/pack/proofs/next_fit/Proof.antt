@@ -7,7 +7,8 @@ use denote.Ref.{now}
 use Rattle.entries.specs.declared.Item.the-variants.{Good}
 use Rattle.source.specs.Source.{itemFrom}
 use Rattle.source.proofs.Rows.{taken-entry, taken-end, row-of}
-use Rattle.pack.proofs.Sizes.{row-short}
+use Rattle.pack.specs.Fill.{rowSize}
+use Rattle.pack.proofs.Sizes.{row-short, size-row}
 use Rattle.pack.proofs.Filling.{fit-over, fit-none, fit-taken, fit-left}
 use Rattle.pack.proofs.next_fit.Statement.{statement}
 use Rattle.pack.proofs.next_fit.Tie as tie
@@ -17,12 +18,17 @@ read-is : (c : tie.After-e) → let a = c .before .before .before .before .befor
     itemFrom (a .content) (now (a .input)) (now (a .starts)) (a .listing) (a .f .at) ≡ Good (c .e .given .0 .0)
 read-is c = taken-entry _ _ _ _ (sym (c .before .before .step .ensures) ∙ c .e .given .1) .0
 
+-- its size
+sized : (c : tie.After-entry-size) → let e = c .before .before in
+    c .entry-size .result ≡ rowSize (e .before .before .before .before .before .before .before .args .listing) (e .e .given .0 .0)
+sized c = let e = c .before .before in c .entry-size .ensures ∙ size-row _ _ (row-of _ _ _ _ _ _ (read-is e) .short)
+
 -- it is short
 small : (c : tie.After-entry-size) → c .entry-size .result ≤ 1060
 small c =
     let e = c .before .before in
     let a = e .before .before .before .before .before .before .before .args in
-    omega (arith, c .entry-size .ensures, row-short (a .listing) (e .e .given .0 .0) (row-of _ _ _ _ _ _ (read-is e) .short))
+    omega (arith, sized c, row-short (a .listing) (e .e .given .0 .0) (row-of _ _ _ _ _ _ (read-is e) .short))
 
 returns : tie.Need-returns
 returns c = sym (fit-over _ _ _ _ _ (c .if1 .taken))
@@ -40,23 +46,23 @@ returns-2 : tie.Need-returns-2
 returns-2 c = sym (fit-none _ _ _ _ _ _ _ _ (taken-end _ _ (sym (c .before .before .step .ensures) ∙ c .enum-told .given .1)))
 
 entry-size-requires : tie.Need-entry-size-requires
-entry-size-requires c κs = row-of _ _ _ _ _ _ (read-is (c .before)) .short
+entry-size-requires c κs = search needs
 
 add-bytes : tie.Need-add-bytes
 add-bytes c = omega (arith, small (c .before), c .before .before .before .before .before .before .if1 .left)
 
 fits-requires : tie.Need-fits-requires
-fits-requires c κs = omega (arith, small (c .before), c .before .before .before .before .before .before .if1 .left)
+fits-requires c κs = search needs
 
 returns-3 : tie.Need-returns-3
 returns-3 c =
     let s = c .before .before .before in
-    fit-taken _ _ _ _ _ _ _ _ _ (read-is (s .before .before)) _ (s .entry-size .ensures) _ (c .before .fits2 .ensures) (c .if2 .taken)
+    fit-taken _ _ _ _ _ _ _ _ _ (read-is (s .before .before)) _ (sized s) _ (c .before .fits2 .ensures) (c .if2 .taken)
 
 returns-4 : tie.Need-returns-4
 returns-4 c =
     let s = c .before .before .before in
-    fit-left _ _ _ _ _ _ _ _ _ (read-is (s .before .before)) _ (s .entry-size .ensures) _ (c .before .fits2 .ensures) (c .if2 .left)
+    fit-left _ _ _ _ _ _ _ _ _ (read-is (s .before .before)) _ (sized s) _ (c .before .fits2 .ensures) (c .if2 .left)
 
 pub next-fit-spec : {M : Type 1} → statement M
 next-fit-spec =

@@ -1,8 +1,8 @@
--- `source::rises` meets its contract. Assumes nothing.
+-- `head::rises` meets its contract. Assumes nothing.
 use native.Mathlib.Nat.{add-sub-cancel-left}
 use borrow.Author.Needs.{needs}
-use Rattle.source.proofs.rises.Statement.{statement}
-use Rattle.source.proofs.rises.Tie as tie
+use Rattle.head.proofs.rises.Statement.{statement}
+use Rattle.head.proofs.rises.Tie as tie
 
 add-is-below : tie.Need-add-is-below
 add-is-below c = search needs
