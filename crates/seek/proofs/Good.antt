@@ -4,31 +4,27 @@
 --     nth-good       entry i
 --     last-good      the last entry
 -- Assumes nothing.
-use mathlib.Core.Path.{_≡_, refl, sym, ap, ap₂, subst, _∙_}
+use mathlib.Core.Path.{_≡_, refl, sym, ap, subst, _∙_}
 use mathlib.Core.List.{List, [], _∷_}
-use mathlib.Core.Bool.{Bool, true, false, cond, _&&_}
-use Prim.Native.Nat.{ℕ, zero, suc, _+_, _-_, _*_, _/_, _%_, _^_, _≤_, _<_}
+use mathlib.Core.Bool.{Bool, true, false, cond}
+use Prim.Native.Nat.{ℕ, zero, suc, _+_, _-_, _*_, _/_, _%_, _≤_, _<_}
 use native.Mathlib.Omega.{arith}
-use native.Mathlib.Decide.{decLt, ℕ-discrete}
-use native.Mathlib.Nat.{div-add-mod', div-mul-le-self}
-use lib.ListN.{length, getD, drop}
-use lib.Dec.{ltb, eqb}
-use borrow.Author.Tests.{lt-ltb, le-ltb, eq-eqb, ne-eqb}
-use Rattle.fields.proofs.Tests.{and-both}
+use native.Mathlib.Decide.{decLt}
+use native.Mathlib.Nat.{div-add-mod'}
+use lib.ListN.{length, drop}
+use borrow.Author.Tests.{lt-ltb, le-ltb}
 use Rattle.names.specs.Order.{isLess, isEqual, notGreater}
 use Rattle.names.specs.Names.{compared, below, matches}
 use Rattle.names.specs.declared.Order.{Order}
 use Rattle.names.specs.declared.Order.the-variants.{Less, Equal, Greater}
 use Rattle.names.proofs.Laws.{names-laws, notGreater-less, below-less}
-use Rattle.entries.specs.Entry.{itemAt, nameOf}
+use Rattle.entries.specs.Entry.{nameOf}
 use Rattle.entries.specs.declared.Limits.{Limits}
 use Rattle.entries.specs.declared.Place.{Place}
-use Rattle.entries.specs.declared.Item.the-variants.{Good}
-use Rattle.entries.proofs.Laws.{item-inside}
-use Rattle.chunk.specs.Chunk.{Entry, all, entryOf, entriesAt, rising, headOf, countOf, tailOf, spacingOf, quickWord, parsed, entriesIn, isKind}
+use Rattle.chunk.specs.Chunk.{Entry, all, entryOf, entriesAt, rising, headOf, countOf, tailOf, spacingOf, parsed, entriesIn, isKind}
+use Rattle.chunk.proofs.Rising.{rising-more}
 use Rattle.chunk.proofs.Accepted.{Accepted, accepted, entries-more, entries-none, entries-count}
-use Rattle.chunk.proofs.Quick.{word}
-use Rattle.seek.specs.Seek.{byOrder, Sought, absent, found, lookup, choice, nth, final, soughtOf, findAt, chooseAt, afterAt, groupAt, nthIn, groupIn, leftFrom, findIn, chooseIn, firstIn, lastIn}
+use Rattle.seek.specs.Seek.{byOrder, Sought, absent, found, lookup, choice, nth, final, soughtOf, findAt, chooseAt, afterAt, groupAt, nthIn, findIn, chooseIn, lastIn}
 use Rattle.seek.proofs.Groups.{group-entries, group-good}
 use Rattle.seek.specs.declared.Hit.{Hit}
 use Rattle.seek.specs.declared.Hit.the-variants.{At, Nothing}
@@ -40,7 +36,7 @@ lookup-behind : (name x : List ℕ) (es : List Entry) → notGreater (compared n
 unfolding rising lookup matches
 lookup-behind name x [] h r = refl
 lookup-behind name x (e ∷ es) h r =
-    let q = and-both (below x (e .name)) (rising (e .name) es) r in
+    let q = rising-more x e es r in
     let l = notGreater-less names-laws name x (e .name) h (below-less x (e .name) (q .0)) in
     rw l (lookup-behind name (e .name) es (ap notGreater l) (q .1))
 
@@ -57,7 +53,7 @@ find-all limits s name end zero at x es e r = rw (entries-none limits true s end
 find-all limits s name end (suc n) at x es e r =
     let m = entries-more limits true s end n at es e in
     let p = m .0 in
-    let q = and-both (below x (nameOf s p)) (rising (nameOf s p) (m .1)) (subst (λ (l : List Entry). rising x l ≡ true) (m .3) r) in
+    let q = rising-more x (entryOf s p) (m .1) (subst (λ (l : List Entry). rising x l ≡ true) (m .3) r) in
     let i = find-all limits s name end n (p .next) (nameOf s p) (m .1) (m .4) (q .1) in
     let here : soughtOf s (findAt limits s name (suc n) at) ≡ lookup name (entryOf s p ∷ m .1) =
     rw (m .2) (find-here s name p (findAt limits s name n (p .next)) (m .1) (compared name (nameOf s p)) refl (q .1) i) in
@@ -69,7 +65,7 @@ choice-behind : (name x : List ℕ) (es : List Entry) (last : Sought) → notGre
 unfolding rising choice below
 choice-behind name x [] last h r = refl
 choice-behind name x (e ∷ es) last h r =
-    let q = and-both (below x (e .name)) (rising (e .name) es) r in
+    let q = rising-more x e es r in
     let l = notGreater-less names-laws name x (e .name) h (below-less x (e .name) (q .0)) in
     rw l (choice-behind name (e .name) es last (ap notGreater l) (q .1))
 
@@ -87,7 +83,7 @@ choose-all limits s name end zero at x best es e r = rw (entries-none limits fal
 choose-all limits s name end (suc n) at x best es e r =
     let m = entries-more limits false s end n at es e in
     let p = m .0 in
-    let q = and-both (below x (nameOf s p)) (rising (nameOf s p) (m .1)) (subst (λ (l : List Entry). rising x l ≡ true) (m .3) r) in
+    let q = rising-more x (entryOf s p) (m .1) (subst (λ (l : List Entry). rising x l ≡ true) (m .3) r) in
     let i = choose-all limits s name end n (p .next) (nameOf s p) (At p) (m .1) (m .4) (q .1) in
     let here : soughtOf s (chooseAt limits s name best (suc n) at) ≡ choice name (soughtOf s best) (entryOf s p ∷ m .1) =
     rw (m .2) (choose-here s name p best (chooseAt limits s name (At p) n (p .next)) (m .1) (compared name (nameOf s p)) refl (q .1) i) in

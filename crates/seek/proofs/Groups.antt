@@ -7,27 +7,26 @@
 use mathlib.Core.Path.{_≡_, refl, sym, ap, ap₂, subst, _∙_}
 use mathlib.Core.Logic.{_⊎_, inl, inr}
 use mathlib.Core.List.{List, [], _∷_}
-use mathlib.Core.Bool.{Bool, true, false, cond, _&&_, false≢true}
+use mathlib.Core.Bool.{Bool, true, false, cond, false≢true}
 use Prim.Native.Nat.{ℕ, zero, suc, _+_, _-_, _*_, _/_, _≤_, _<_, min}
 use native.Mathlib.Omega.{arith}
 use native.Mathlib.Decide.{decLt, ℕ-discrete}
 use native.Mathlib.Nat.{div-eq-of-lt, le-div-iff-mul-le}
 use lib.ListN.{length, getD, drop}
 use lib.Seq.{getD-drop}
-use lib.Dec.{eqb}
 use borrow.Author.Tests.{eq-eqb, ne-eqb}
-use Rattle.fields.proofs.Tests.{and-both}
 use Rattle.names.specs.Names.{compared, below, matches}
-use Rattle.names.specs.declared.Order.the-variants.{Less, Equal, Greater}
-use Rattle.names.proofs.Laws.{names-laws, below-trans, less-below, below-less, not-less, less-notGreater, flip-less}
+use Rattle.names.specs.declared.Order.the-variants.{Greater}
+use Rattle.names.proofs.Laws.{names-laws, less-below, below-less, not-less, less-notGreater, flip-less}
 use Rattle.entries.specs.Entry.{nameOf}
 use Rattle.entries.specs.declared.Limits.{Limits}
 use Rattle.entries.proofs.Laws.{item-inside}
-use Rattle.chunk.specs.Chunk.{Entry, all, entryOf, entriesAt, rising, headOf, countOf, tailOf, spacingOf, quickCount}
+use Rattle.chunk.specs.Chunk.{Entry, all, entriesAt, rising, headOf, countOf, tailOf, spacingOf, quickCount}
 use Rattle.chunk.proofs.Accepted.{Accepted, entries-more, entries-count}
 use Rattle.chunk.proofs.Quick.{word}
+use Rattle.chunk.proofs.Rising.{rising-more, rising-at, rising-drop}
 use Rattle.seek.specs.Seek.{Sought, absent, found, lookup, choice, groupAt, groupAbove, groupFrom, groupIn, leftFrom}
-use Rattle.seek.proofs.Steps.{group-one, group-below, group-from}
+use Rattle.seek.proofs.Steps.{group-one}
 
 -- ---- the group of an empty chunk, and of one whose density is capped
 
@@ -142,22 +141,7 @@ module _ (limits : Limits) (k : Bool) (s : List ℕ) (es : List Entry) (good : A
       halved true e x y = x
       halved false e x y = y (inr (sym (above-is name (lo + (more + 1) / 2) (last-inside (lo + (more + 1) / 2) (omega arith))) ∙ e))
 
--- ---- names rise
-
-rising-each : (j : ℕ) (x : List ℕ) (es : List Entry) (d : Entry) → rising x es ≡ true → j < length es → below x (getD es j d .name) ≡ true
-unfolding rising
-rising-each j x [] d r h = absurd (omega arith)
-rising-each zero x (e ∷ es) d r h = and-both (below x (e .name)) (rising (e .name) es) r .0
-rising-each (suc j) x (e ∷ es) d r h =
-    let q = and-both (below x (e .name)) (rising (e .name) es) r in
-    below-trans x (e .name) (getD es j d .name) (q .0) (rising-each j (e .name) es d (q .1) (omega arith))
-
--- entries that rise still do without the first ones
-pub rising-drop : (j : ℕ) (x : List ℕ) (es : List Entry) → rising x es ≡ true → (y : List ℕ) × (rising y (drop j es) ≡ true)
-unfolding rising
-rising-drop zero x es r = (x, r)
-rising-drop (suc j) x [] r = (x, refl)
-rising-drop (suc j) x (e ∷ es) r = rising-drop j (e .name) es (and-both (below x (e .name)) (rising (e .name) es) r .1)
+-- ---- what is sought, from an entry on
 
 -- what is below y is below a name that y is not above
 passed : (name x y : List ℕ) → below x y ≡ true → below name y ≡ false → compared name x ≡ Greater
@@ -172,8 +156,8 @@ module _ (name : List ℕ) (d : Entry) where
   lookup-from zero x es r h q = refl
   lookup-from (suc j) x [] r h q = absurd (omega arith)
   lookup-from (suc j) x (e ∷ es) r h q =
-      let b = and-both (below x (e .name)) (rising (e .name) es) r .1 in
-      rw (passed name (e .name) (getD es j d .name) (rising-each j (e .name) es d b (omega arith)) q) (lookup-from j (e .name) es b (omega arith) q)
+      let b = rising-more x e es r .1 in
+      rw (passed name (e .name) (getD es j d .name) (rising-at j (e .name) es d b (omega arith)) q) (lookup-from j (e .name) es b (omega arith) q)
 
   choice-head : (e : Entry) (es : List Entry) (before : Sought) → below name (e .name) ≡ false → choice name before (e ∷ es) ≡ choice name absent (e ∷ es)
   unfolding choice
@@ -185,8 +169,8 @@ module _ (name : List ℕ) (d : Entry) where
   choice-from j x [] before r h q = absurd (omega arith)
   choice-from zero x (e ∷ es) before r h q = choice-head e es before q
   choice-from (suc j) x (e ∷ es) before r h q =
-      let b = and-both (below x (e .name)) (rising (e .name) es) r .1 in
-      rw (passed name (e .name) (getD es j d .name) (rising-each j (e .name) es d b (omega arith)) q) (choice-from j (e .name) es (found e) b (omega arith) q)
+      let b = rising-more x e es r .1 in
+      rw (passed name (e .name) (getD es j d .name) (rising-at j (e .name) es d b (omega arith)) q) (choice-from j (e .name) es (found e) b (omega arith) q)
 
 -- ---- the entries from the group of a name on
 

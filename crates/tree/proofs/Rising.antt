@@ -5,10 +5,11 @@ use mathlib.Core.Logic.{_⊎_, inl, inr, ⊎-elim}
 use mathlib.Core.Bool.{true, false}
 use mathlib.Core.List.{List, [], _∷_, _++_}
 use Prim.Native.Nat.{ℕ}
-use Rattle.fields.proofs.Tests.{never, and-both}
+use Rattle.fields.proofs.Tests.{never}
 use Rattle.names.specs.Names.{below, matches}
 use Rattle.names.proofs.Laws.{below-trans}
 use Rattle.chunk.specs.Chunk.{Entry, rising}
+use Rattle.chunk.proofs.Rising.{rising-more}
 use Rattle.seek.specs.Seek.{Sought, absent, found, lookup, choice, nth, final}
 use Rattle.tree.specs.Lists.{In, Each}
 use Rattle.tree.specs.Shape.{nameIn}
@@ -20,10 +21,6 @@ use Rattle.tree.proofs.Alike.{before-equal}
 -- the one's name comes before the other's
 abbrev pub Before : Entry → Entry → Type 0
 Before d e = below (d .name) (e .name) ≡ true
-
-rising-more : (last : List ℕ) (e : Entry) (es : List Entry) → rising last (e ∷ es) ≡ true → (below last (e .name) ≡ true) × (rising (e .name) es ≡ true)
-unfolding rising
-rising-more last e es h = and-both _ _ h
 
 -- `last` comes before every name
 rising-all : (last : List ℕ) (es : List Entry) → rising last es ≡ true → (e : Entry) → In e es → below last (e .name) ≡ true

@@ -1,12 +1,12 @@
 use borrow.Author.Needs.{needs}
-use mathlib.Core.Path.{_≡_, refl, sym, ap, _∙_}
-use Prim.Native.Nat.{ℕ, _+_, _-_, _*_, _/_, _≤_, _<_, min}
+use mathlib.Core.Path.{_≡_, refl, ap, _∙_}
+use Prim.Native.Nat.{ℕ, _-_, _*_, _/_, _≤_}
 use native.Mathlib.Nat.{le-div-iff-mul-le, div-le-self}
 use native.Mathlib.Omega.{arith}
 use denote.Ref.{now}
-use Rattle.chunk.specs.Chunk.{countOf, spacingOf, headOf}
+use Rattle.chunk.specs.Chunk.{countOf, spacingOf}
 use Rattle.chunk.proofs.Quick.{capped}
-use Rattle.seek.specs.Seek.{groupAt, groupFrom, groupIn, leftFrom}
+use Rattle.seek.specs.Seek.{groupAt, groupFrom, groupIn}
 use Rattle.seek.proofs.Groups.{group-none, capped-group}
 use Rattle.seek.proofs.group_for.Statement.{statement}
 use Rattle.seek.proofs.group_for.Tie as tie

@@ -1,9 +1,9 @@
 use borrow.Author.Needs.{needs}
 use mathlib.Core.Path.{_≡_, refl, sym, _∙_}
-use Prim.Native.Nat.{ℕ, _+_, _-_, _/_, _≤_}
+use Prim.Native.Nat.{ℕ, _+_, _-_, _≤_}
 use native.Mathlib.Omega.{arith}
 use denote.Ref.{now}
-use Rattle.seek.specs.Seek.{groupAbove, groupFrom}
+use Rattle.seek.specs.Seek.{groupFrom}
 use Rattle.seek.proofs.Steps.{group-one, group-below, group-from}
 use Rattle.seek.proofs.group_of.Statement.{statement}
 use Rattle.seek.proofs.group_of.Tie as tie
