@@ -48,7 +48,7 @@ static const uint8_t *map(const char *path, size_t *len) {
 }
 
 /* One name; true if it was found. */
-static int find(const uint8_t *book, size_t len, const uint64_t record[11], const char *name) {
+static int find(const uint8_t *book, size_t len, const uint64_t record[HODS_RECORD], const char *name) {
     uint32_t trail[5];
     uint64_t entry[6];
     uint64_t answer = hods_lookup(book, len, record, (const uint8_t *)name, strlen(name), trail, 5, entry);
@@ -86,7 +86,7 @@ int main(int argc, char **argv) {
         return 2;
     }
     /* Opening checks the whole directory once; from then on, with this record, no good name is refused. */
-    uint64_t record[11];
+    uint64_t record[HODS_RECORD];
     uint64_t answer = hods_open(book, len, record);
     if (answer != 0) {
         refused(argv[1], answer);

@@ -2,7 +2,7 @@
    memory of its own but stack, and is proved to do what is said here; crates/hodsplinter has the contracts. Slices must be real: a pointer and the number
    of elements behind it (never NULL, also for none), and what is written must not overlap what is read.
 
-   A record is eleven numbers: version, time, language, directory start, chunk count, density, depth, root, first, last, content start. A refusal is its
+   A record is HODS_RECORD numbers: version, time, language, directory start, chunk count, density, depth, root, first, last, content start. A refusal is its
    number in the table of docs/FORMAT.md plus 256 times its place: the chunk's number for 8 to 12, else FFFFFFFF hex. After a refusal no lent place has
    changed. */
 #ifndef HODSPLINTER_H
@@ -11,27 +11,30 @@
 #include <stddef.h>
 #include <stdint.h>
 
+/* How many numbers a record has. */
+#define HODS_RECORD 11
+
 #ifdef __cplusplus
 extern "C" {
 #endif
 
 /* 0 and the book's record, or the refusal. */
-uint64_t hods_open(const uint8_t *file, size_t len, uint64_t record[11]);
+uint64_t hods_open(const uint8_t *file, size_t len, uint64_t record[HODS_RECORD]);
 
 /* 0 found: the answer is the count of chunks, the name's place, its length, section, offset, length. 255 absent: answer[0] is the count of chunks, the
    rest stays. Else the refusal. The trail, of at least 5 places, gets the numbers of these chunks; later places stay. */
-uint64_t hods_lookup(const uint8_t *file, size_t len, const uint64_t record[11], const uint8_t *name, size_t name_len, uint32_t *trail, size_t places,
+uint64_t hods_lookup(const uint8_t *file, size_t len, const uint64_t record[HODS_RECORD], const uint8_t *name, size_t name_len, uint32_t *trail, size_t places,
                      uint64_t answer[6]);
 
 /* 0 and the cursor at the start of the listing. */
-uint64_t hods_start(const uint64_t record[11], uint64_t cursor[2]);
+uint64_t hods_start(const uint64_t record[HODS_RECORD], uint64_t cursor[2]);
 
 /* 0 with the entry (name's place, its length, section, offset, length) and the cursor moved on; 255 at the end with nothing changed; or the refusal. */
-uint64_t hods_step(const uint8_t *file, size_t len, const uint64_t record[11], uint64_t cursor[2], uint64_t entry[5]);
+uint64_t hods_step(const uint8_t *file, size_t len, const uint64_t record[HODS_RECORD], uint64_t cursor[2], uint64_t entry[5]);
 
 /* 0 and the entries of one listing chunk, five numbers each, with next[0] their count and next[1] the next chunk's number; 255 where there are too few
    places for them, with nothing changed (4,070 always do); or the refusal. */
-uint64_t hods_chunk(const uint8_t *file, size_t len, const uint64_t record[11], uint64_t chunk, uint64_t *entries, size_t numbers, uint64_t next[2]);
+uint64_t hods_chunk(const uint8_t *file, size_t len, const uint64_t record[HODS_RECORD], uint64_t chunk, uint64_t *entries, size_t numbers, uint64_t next[2]);
 
 /* The length of that part of the file: the length asked for where it lies inside, else 0. */
 uint64_t hods_part(const uint8_t *file, size_t len, uint64_t place, uint64_t length);

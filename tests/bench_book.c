@@ -70,7 +70,7 @@ static double write_best(const uint8_t *file, size_t len, const uint64_t *record
 /* The deepest stack of one call, by a painted stack of its own. */
 static const uint8_t *the_file;
 static size_t the_len;
-static uint64_t the_record[11];
+static uint64_t the_record[HODS_RECORD];
 
 static void *call_open(void *x) { hods_open(the_file, the_len, the_record); return x; }
 static void *call_page(void *x) { uint64_t next[2]; hods_chunk(the_file, the_len, the_record, the_record[8], page, 4070, next); return x; }
@@ -101,7 +101,7 @@ int main(int argc, char **argv) {
     rewind(f);
     uint8_t *file = malloc(len);
     if (fread(file, 1, len, f) != len) return 2;
-    uint64_t record[11], answer[6];
+    uint64_t record[HODS_RECORD], answer[6];
     uint32_t trail[5];
     double open_best = 1e9, list_best = 1e9, hit_best = 1e9, miss_best = 1e9;
     size_t entries = 0, chunks = 0;

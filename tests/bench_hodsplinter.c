@@ -3,7 +3,7 @@
 
 #include "../include/hodsplinter.h"
 
-static uint64_t record[11], page[4070];
+static uint64_t record[HODS_RECORD], page[4070];
 static uint8_t *entries, *head;
 static size_t entries_len, head_len;
 
@@ -35,14 +35,14 @@ static void ready(void) {
 }
 
 void measure_open(void) {
-    uint64_t r[11];
+    uint64_t r[HODS_RECORD];
     if (hods_open(book, book_len, r)) fail("refused");
     kept += r[4];
 }
 
 void measure_open_path(void) {
     size_t len;
-    uint64_t r[11];
+    uint64_t r[HODS_RECORD];
     const uint8_t *at = mapped(book_path, &len, 0);
     if (hods_open(at, len, r)) fail("refused");
     munmap((void *)at, len);

@@ -1,8 +1,8 @@
 /* Asks the library what its standard input says, a line a question, and answers a line each: driver FILE.
      o                               open: the code, and the record for 0
-     l R0 .. R10 PLACES HEXNAME      lookup with a record and a trail of so many places, all 77 before: the code, six numbers all 88 before, the trail
-     s R0 .. R10 CHUNK ENTRY         step: the code, the cursor, five numbers all 88 before
-     p R0 .. R10 CHUNK NUMBERS       page into so many numbers, all 77 before: the code, two numbers all 88 before, a sum over the numbers
+     l RECORD PLACES HEXNAME         lookup with a record and a trail of so many places, all 77 before: the code, six numbers all 88 before, the trail
+     s RECORD CHUNK ENTRY            step: the code, the cursor, five numbers all 88 before
+     p RECORD CHUNK NUMBERS          page into so many numbers, all 77 before: the code, two numbers all 88 before, a sum over the numbers
      b PLACE LENGTH                  part: its length
    A name of no bytes is written as a dash. */
 #include <inttypes.h>
@@ -32,12 +32,12 @@ static size_t name_in(uint8_t *name) {
 
 static uint8_t *file;
 static size_t len;
-static uint64_t record[11];
+static uint64_t record[HODS_RECORD];
 
 static void ask_open(void) {
-    for (int i = 0; i < 11; i++) record[i] = 88;
+    for (int i = 0; i < HODS_RECORD; i++) record[i] = 88;
     printf("%" PRIu64, hods_open(file, len, record));
-    show(record, 11);
+    show(record, HODS_RECORD);
 }
 
 static void ask_lookup(void) {
@@ -88,7 +88,7 @@ int main(int argc, char **argv) {
     while (fgets(line, sizeof line, stdin)) {
         rest = line + 1;
         if (line[0] == 'l' || line[0] == 's' || line[0] == 'p')
-            for (int i = 0; i < 11; i++) record[i] = number();
+            for (int i = 0; i < HODS_RECORD; i++) record[i] = number();
         if (line[0] == 'o') ask_open();
         if (line[0] == 'l') ask_lookup();
         if (line[0] == 's') ask_step();

@@ -44,7 +44,7 @@ static size_t encint(uint8_t *to, uint64_t value) {
 static int reads_back(const uint8_t *head, size_t head_len, size_t content, const uint8_t *entries, size_t len) {
     static uint64_t page[4070];
     size_t size = head_len + content, at = 0;
-    uint64_t record[11] = {0}, next[2];
+    uint64_t record[HODS_RECORD] = {0}, next[2];
     uint8_t *book = malloc(size);
     if (!book) exit(2);
     memcpy(book, head, head_len);

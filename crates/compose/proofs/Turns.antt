@@ -11,8 +11,8 @@ use Rattle.entries.specs.declared.Place.{Place}
 use Rattle.chunk.specs.Chunk.{headOf}
 use Rattle.chunk.proofs.Frame.{head-small}
 use Rattle.source.specs.Stored.{Stored, storedOf}
-use Rattle.source.specs.Source.{rowsFrom}
-use Rattle.source.proofs.Rows.{rows-more}
+use Rattle.source.specs.Source.{itemFrom, rowsFrom}
+use Rattle.source.proofs.Rows.{run-more}
 use Rattle.pack.specs.Levels.{entryBytes}
 use Rattle.pack.specs.Fill.{rowSize, fitOf, extentFrom}
 use Rattle.pack.specs.declared.Extent.{Extent}
@@ -52,13 +52,13 @@ zeros m h whole small =
 
 -- ---- the loop
 
-module _ (content : ℕ) (s starts : List ℕ) (k : Bool) (from n : ℕ) where
-  abbrev rows : ℕ → List Place
-  rows at = rowsFrom content s starts k at
+module _ (content : ℕ) (s starts : List ℕ) (k : Bool) (all from n : ℕ) where
+  abbrev rows : ℕ → ℕ → List Place
+  rows left at = rowsFrom content s starts k left at
 
   -- all entries from the cursor on, whether they fit or not
   abbrev group : List Stored
-  group = map (storedOf s) (rows from)
+  group = map (storedOf s) (rows all from)
 
   -- the chunk with i of them
   abbrev made : ℕ → List ℕ
@@ -67,42 +67,42 @@ module _ (content : ℕ) (s starts : List ℕ) (k : Bool) (from n : ℕ) where
   -- what f says is taken, and it is written
   pub record Putting (out : List ℕ) (f : Extent) : Type 0 where
     pub few : f .count ≤ f .bytes
-    pub there : f .count ≤ length (rows from)
-    pub left : rows (f .at) ≡ drop (f .count) (rows from)
+    pub there : f .count ≤ length (rows all from)
+    pub others : rows (f .left) (f .at) ≡ drop (f .count) (rows all from)
     pub size : f .bytes ≡ length (runBytes k (take (f .count) group))
-    pub whole : extentFrom k n (f .count) (f .bytes) (f .at) (rows (f .at)) ≡ extentFrom k n 0 0 from (rows from)
+    pub whole : extentFrom k n (f .count) (f .bytes) (f .at) (f .left) (rows (f .left) (f .at)) ≡ extentFrom k n 0 0 from all (rows all from)
     pub is : out ≡ made (f .count)
 
-  pub putting-start : (out : List ℕ) → length out ≡ 4096 → out ≡ replicate (length out) 0 → Putting out (record { count = 0; bytes = 0; at = from })
+  pub putting-start : (out : List ℕ) → length out ≡ 4096 → out ≡ replicate (length out) 0 → Putting out (record { count = 0; bytes = 0; at = from; left = all })
   unfolding runBytes
   putting-start out l h =
       record {
         few = omega arith;
         there = omega arith;
-        left = refl;
+        others = refl;
         size = refl;
         whole = refl;
         is = h ∙ zeros (length out) (headOf k) l (head-small k) ∙ partly-start k n (replicate (headOf k) 0) (replicate 2 0) group;
       }
 
   module _ (out : List ℕ) (f : Extent) (p : Putting out f) where
-    pub putting-end : fitOf k n (f .count) (f .bytes) (rows (f .at)) ≡ Full
-        → (f ≡ extentFrom k n 0 0 from (rows from)) × (out ≡ entriesOnly k n (groupFrom content s starts k from (f .count)))
+    pub putting-end : fitOf k n (f .count) (f .bytes) (rows (f .left) (f .at)) ≡ Full
+        → (f ≡ extentFrom k n 0 0 from all (rows all from)) × (out ≡ entriesOnly k n (groupFrom content s starts k all from (f .count)))
     putting-end h =
-        let l : f .count ≤ length group = omega (arith, p .there, length-map (rows from) (storedOf s)) in (
-          sym (full content s starts k n (f .count) (f .bytes) (f .at) h) ∙ p .whole,
-          p .is ∙ partly-end k n (replicate (headOf k) 0) (replicate 2 0) group (f .count) l ∙ ap (entriesOnly k n) (sym (map-take (storedOf s) (f .count) (rows from))),
+        let l : f .count ≤ length group = omega (arith, p .there, length-map (rows all from) (storedOf s)) in (
+          sym (full content s starts k n (f .count) (f .bytes) (f .left) (f .at) h) ∙ p .whole,
+          p .is ∙ partly-end k n (replicate (headOf k) 0) (replicate 2 0) group (f .count) l ∙ ap (entriesOnly k n) (sym (map-take (storedOf s) (f .count) (rows all from))),
         )
 
-    module _ (e : Place) (m : ℕ) (t : Fitted content s starts k n (f .count) (f .bytes) (f .at) e m) where
+    module _ (e : Place) (m : ℕ) (t : Fitted content s starts k n (f .count) (f .bytes) (f .left) (f .at) e m) where
       abbrev i : ℕ
       i = f .count
 
-      next-row : drop i (rows from) ≡ e ∷ rows (e .next)
-      next-row = sym (p .left) ∙ rows-more content s starts k (f .at) e (t .here)
+      next-row : drop i (rows all from) ≡ e ∷ rows (f .left - 1) (e .next)
+      next-row = sym (p .others) ∙ run-more (itemFrom content s starts k) (f .left) (f .at) e (t .some) (t .here)
 
-      next-entry : drop i group ≡ storedOf s e ∷ map (storedOf s) (rows (e .next))
-      next-entry = sym (map-drop (storedOf s) i (rows from)) ∙ ap (map (storedOf s)) next-row
+      next-entry : drop i group ≡ storedOf s e ∷ map (storedOf s) (rows (f .left - 1) (e .next))
+      next-entry = sym (map-drop (storedOf s) i (rows all from)) ∙ ap (map (storedOf s)) next-row
 
       -- with the entry
       next-size : m ≡ length (runBytes k (take (i + 1) group))
@@ -113,7 +113,7 @@ module _ (content : ℕ) (s starts : List ℕ) (k : Bool) (from n : ℕ) where
             t .bytes,
             p .size,
             row-bytes k s e (t .inside),
-            ap length (run-next k i group (storedOf s e) (map (storedOf s) (rows (e .next))) next-entry),
+            ap length (run-next k i group (storedOf s e) (map (storedOf s) (rows (f .left - 1) (e .next))) next-entry),
             length-append (runBytes k (take i group)) x,
           )
 
@@ -132,12 +132,12 @@ module _ (content : ℕ) (s starts : List ℕ) (k : Bool) (from n : ℕ) where
           }
 
       pub putting-more : (first : ℕ) (o₁ o₂ : List ℕ) → first ≡ headOf k → o₁ ≡ sets out (first + f .bytes) (entryBytes k (storedOf s e))
-          → o₂ ≡ sets o₁ (4094 - 2 * (i / n)) (markBytes n i (f .bytes)) → Putting o₂ (record { count = i + 1; bytes = m; at = e .next })
+          → o₂ ≡ sets o₁ (4094 - 2 * (i / n)) (markBytes n i (f .bytes)) → Putting o₂ (record { count = i + 1; bytes = m; at = e .next; left = f .left - 1 })
       putting-more first o₁ o₂ h w₁ w₂ =
           record {
             few = omega (arith, p .few, t .more);
-            there = omega (arith, length-drop i (rows from), ap length next-row);
-            left = sym (others-of i (rows from) e (rows (e .next)) next-row);
+            there = omega (arith, length-drop i (rows all from), ap length next-row);
+            others = sym (others-of i (rows all from) e (rows (f .left - 1) (e .next)) next-row);
             size = next-size;
             whole = t .turn ∙ p .whole;
             is =
@@ -145,5 +145,5 @@ module _ (content : ℕ) (s starts : List ℕ) (k : Bool) (from n : ℕ) where
                 ∙ ap (λ (o : List ℕ). sets o (4094 - 2 * (i / n)) (markBytes n i (f .bytes))) w₁
                 ∙ ap₂ (λ (o : List ℕ) (a : ℕ). sets (sets o a (entryBytes k (storedOf s e))) (4094 - 2 * (i / n)) (markBytes n i (f .bytes))) (p .is) (ap₂ _+_ h (p .size))
                 ∙ ap (λ (b : ℕ). sets (sets (made i) (entriesEnd k (take i group)) (entryBytes k (storedOf s e))) (4094 - 2 * (i / n)) (markBytes n i b)) (p .size)
-                ∙ partly-turn k n (replicate (headOf k) 0) (replicate 2 0) group (length-replicate (headOf k) 0) i (storedOf s e) (map (storedOf s) (rows (e .next))) next-entry (omega (arith, t .room, next-size));
+                ∙ partly-turn k n (replicate (headOf k) 0) (replicate 2 0) group (length-replicate (headOf k) 0) i (storedOf s e) (map (storedOf s) (rows (f .left - 1) (e .next))) next-entry (omega (arith, t .room, next-size));
           }

@@ -16,8 +16,8 @@ unfoldable pub markBytes : ℕ → ℕ → ℕ → List ℕ
 markBytes n i distance = cond (ltb 0 i && eqb (i % n) 0) (bytes 2 distance) []
 
 -- the entries that a chunk takes from a cursor on
-abbrev pub groupFrom : ℕ → List ℕ → List ℕ → Bool → ℕ → ℕ → List Stored
-groupFrom content s starts k at count = map (storedOf s) (take count (rowsFrom content s starts k at))
+abbrev pub groupFrom : ℕ → List ℕ → List ℕ → Bool → ℕ → ℕ → ℕ → List Stored
+groupFrom content s starts k left at count = map (storedOf s) (take count (rowsFrom content s starts k left at))
 
 -- a chunk of the entries es, with any header and any last bytes
 unfoldable pub between : Bool → ℕ → List ℕ → List ℕ → List Stored → List ℕ

@@ -132,13 +132,14 @@ fn put_entries(
     n: usize,
 ) -> Extent
     requires { ⌜ (length (now out) ≡ 4096) × (now out ≡ replicate (length (now out)) 0) ⌝ }
-    ensures { λ r. ⌜ (r ≡ extentFrom (from .listing) n 0 0 (from .at) (rowsFrom content (now (input .entry)) (now (starts .entry)) (from .listing) (from .at))) × (now (out .exit) ≡ entriesOnly (from .listing) n (groupFrom content (now (input .entry)) (now (starts .entry)) (from .listing) (from .at) (r .count))) ⌝ }
+    ensures { λ r. ⌜ (r ≡ extentFrom (from .listing) n 0 0 (from .at) (from .left) (rowsFrom content (now (input .entry)) (now (starts .entry)) (from .listing) (from .left) (from .at))) × (now (out .exit) ≡ entriesOnly (from .listing) n (groupFrom content (now (input .entry)) (now (starts .entry)) (from .listing) (from .left) (from .at) (r .count))) ⌝ }
 {
     let first = chunk::head(from.listing);
     let mut f = Extent {
         count: 0,
         bytes: 0,
         at: from.at,
+        left: from.left,
     };
     loop {
         let Fit::Entry(e, bytes) = pack::next_fit(input, starts, content, from.listing, n, f) else {
@@ -150,6 +151,7 @@ fn put_entries(
             count: f.count + 1,
             bytes,
             at: e.next,
+            left: f.left - 1,
         };
     }
 }
@@ -195,8 +197,8 @@ pub fn write_chunk(
     prev: u32,
     next: u32,
 ) -> Extent
-    ensures answer { λ r. ⌜ r ≡ extentFrom (from .listing) n 0 0 (from .at) (rowsFrom content (now (input .entry)) (now (starts .entry)) (from .listing) (from .at)) ⌝ }
-    ensures written { λ r. ⌜ now (out .exit) ≡ cond (eqb (length (now (out .entry))) 4096) (newChunk (from .listing) n prev next (map (storedOf (now (input .entry))) (take (r .count) (rowsFrom content (now (input .entry)) (now (starts .entry)) (from .listing) (from .at))))) (now (out .entry)) ⌝ }
+    ensures answer { λ r. ⌜ r ≡ extentFrom (from .listing) n 0 0 (from .at) (from .left) (rowsFrom content (now (input .entry)) (now (starts .entry)) (from .listing) (from .left) (from .at)) ⌝ }
+    ensures written { λ r. ⌜ now (out .exit) ≡ cond (eqb (length (now (out .entry))) 4096) (newChunk (from .listing) n prev next (map (storedOf (now (input .entry))) (take (r .count) (rowsFrom content (now (input .entry)) (now (starts .entry)) (from .listing) (from .left) (from .at))))) (now (out .entry)) ⌝ }
 {
     if out.len() != 4096 {
         return pack::fill(input, starts, content, from, n);

@@ -2,7 +2,7 @@
 -- Assumes nothing.
 use mathlib.Core.Path.{_≡_, refl, sym, ap, subst, _∙_}
 use mathlib.Core.Bool.{Bool, true, false, _&&_}
-use mathlib.Core.List.{List, _++_, map, flatten, append-assoc}
+use mathlib.Core.List.{List, [], _++_, map, flatten, append-assoc}
 use Prim.Native.Nat.{ℕ, _+_, _-_, _*_, _^_, _≤_, _<_, min}
 use native.Mathlib.Omega.{arith}
 use lib.ListN.{length, take, drop, length-append, length-map}
@@ -14,13 +14,15 @@ use Rattle.fields.proofs.Tests.{and-both, and-no}
 use Rattle.chunk.specs.Chunk.{spacingOf}
 use Rattle.source.specs.Stored.{Stored, storedOf}
 use Rattle.source.specs.Input.{given, inputRight}
+use Rattle.pack.specs.Levels.{level}
 use Rattle.pack.specs.Starts.{chunksFrom}
 use Rattle.pack.proofs.Levels.{chunks-given}
 use Rattle.compose.proofs.Words.{three}
 use Rattle.layout.specs.Headers.{headLength, fileHeader, sectionZero, directoryHeader}
-use Rattle.layout.specs.Layout.{takes, Layout, layoutOf, layoutFor, chunkCount, depthOf, smallEnough, rootOf, chunksOf, chunkList, headBytes}
-use Rattle.layout.specs.RoundTrip.{newBook, RoundTrip}
-use Rattle.layout.proofs.RoundTrips.{round-trip}
+use Rattle.layout.specs.Layout.{takes, Layout, layoutOver, layoutOf, layoutFor, chunkCount, depthOf, smallEnough, rootOf, chunksOf, chunkList, headBytes}
+use Rattle.layout.proofs.Cut.{Cut, takes-told}
+use Rattle.roundtrip.specs.RoundTrip.{newBook, RoundTrip}
+use Rattle.roundtrip.proofs.RoundTrips.{round-trip}
 use Rattle.head.specs.Head.{refusal, written, outputFor, Worth}
 use Rattle.head.specs.Plan.{limits, Made, LevelFits, IndexFits, indexOf, headersOf, Ready}
 use Rattle.head.specs.declared.Written.{Written}
@@ -38,18 +40,17 @@ length-headers density time language content m depth count =
     let d = directoryHeader language density depth (rootOf depth count) (m - 1) count in
     omega (arith, length-append a (b ++ d), length-append b d, length-file time language count, length-section (headLength count + content), length-directory language density depth (rootOf depth count) (m - 1) count)
 
-module _ (content : ℕ) (s starts : List ℕ) (n m depth count room : ℕ) (r : Ready content s starts n m depth count room) where
-  abbrev l : Layout
-  l = layoutOf n (given content s)
+-- the listing chunks that are written are those of the input's layout
+pub leaves-are : (content : ℕ) (s : List ℕ) (n : ℕ) → map (map (storedOf s)) (chunksFrom content s [] true n (length s) 0) ≡ layoutOf n (given content s) .leaves
+unfolding layoutOver
+leaves-are content s n = chunks-given content s [] n
 
-  leaves-is : map (map (storedOf s)) (chunksFrom content s (take 0 starts) true n 0) ≡ l .leaves
-  unfolding layoutOf
-  leaves-is = chunks-given content s (take 0 starts) n
+module _ (content : ℕ) (s starts : List ℕ) (n : ℕ) (l : Layout) (m depth count room : ℕ) (r : Ready s starts l m depth count room)
+    (leaves-is : map (map (storedOf s)) (chunksFrom content s (take 0 starts) true n (length s) 0) ≡ l .leaves) where
+  leaves-count : length (chunksFrom content s (take 0 starts) true n (length s) 0) ≡ m
+  leaves-count = sym (length-map (chunksFrom content s (take 0 starts) true n (length s) 0) (map (storedOf s))) ∙ ap length leaves-is ∙ sym (r .made .listings)
 
-  leaves-count : length (chunksFrom content s (take 0 starts) true n 0) ≡ m
-  leaves-count = sym (length-map (chunksFrom content s (take 0 starts) true n 0) (map (storedOf s))) ∙ ap length leaves-is ∙ sym (r .made .listings)
-
-  pub ready-level : LevelFits content s starts true n 0 0 room
+  pub ready-level : LevelFits content s starts true n (length s) 0 0 room
   ready-level =
       let w = r .made in
       record {
@@ -58,7 +59,7 @@ module _ (content : ℕ) (s starts : List ℕ) (n m depth count room : ℕ) (r :
         enough = omega (arith, leaves-count, w .counted, w .listings, r .enough);
       }
 
-  pub ready-index : IndexFits content s starts n m room
+  pub ready-index : IndexFits s starts l m room
   ready-index =
       let w = r .made in
       record {
@@ -72,17 +73,17 @@ module _ (content : ℕ) (s starts : List ℕ) (n m depth count room : ℕ) (r :
 
   pub head-written : (density time language : ℕ) → n ≡ spacingOf density → (o₀ o₁ o₂ o₃ : List ℕ)
       → o₁ ≡ sets o₀ 0 (headersOf density time language content m depth count)
-      → o₂ ≡ sets o₁ (204 + 4096 * 0) (flatten (chunksOf true n m 0 (map (map (storedOf s)) (chunksFrom content s (take 0 starts) true n 0))))
-      → o₃ ≡ sets o₂ (204 + 4096 * m) (flatten (indexOf content s n m))
+      → o₂ ≡ sets o₁ (204 + 4096 * 0) (flatten (chunksOf true n m 0 (map (map (storedOf s)) (chunksFrom content s (take 0 starts) true n (length s) 0))))
+      → o₃ ≡ sets o₂ (204 + 4096 * m) (flatten (indexOf n m l))
       → o₃ ≡ sets o₀ 0 (headBytes density time language content l)
   unfolding headBytes headersOf chunkList
   head-written density time language ns o₀ o₁ o₂ o₃ w₁ w₂ w₃ =
       let w = r .made in
       let H = headersOf density time language content m depth count in
-      let A = flatten (chunksOf true n m 0 (map (map (storedOf s)) (chunksFrom content s (take 0 starts) true n 0))) in
-      let B = flatten (indexOf content s n m) in
+      let A = flatten (chunksOf true n m 0 (map (map (storedOf s)) (chunksFrom content s (take 0 starts) true n (length s) 0))) in
+      let B = flatten (indexOf n m l) in
       let lH = length-headers density time language content m depth count in
-      let lA : length A ≡ 4096 * m = length-level true n m s content (take 0 starts) 0 0 ∙ ap (λ (j : ℕ). 4096 * j) leaves-count in
+      let lA : length A ≡ 4096 * m = length-level true n m s content (take 0 starts) (length s) 0 0 ∙ ap (λ (j : ℕ). 4096 * j) leaves-count in
       let x = fileHeader time language count in
       let y = sectionZero (headLength count + content) in
       let z = directoryHeader language density depth (rootOf depth count) (m - 1) count in
@@ -94,7 +95,7 @@ module _ (content : ℕ) (s starts : List ℕ) (n m depth count room : ℕ) (r :
       (append-assoc x (y ++ z) (A ++ B)
       ∙ ap (λ (t : List ℕ). x ++ t) (append-assoc y z (A ++ B))
       ∙ ap (λ (t : List (List Stored)). x ++ (y ++ (z ++ (flatten (chunksOf true n m 0 t) ++ B)))) leaves-is
-      ∙ ap (λ (t : List ℕ). x ++ (y ++ (z ++ t))) (sym (flatten-append (chunksOf true n m 0 (l .leaves)) (indexOf content s n m)))
+      ∙ ap (λ (t : List ℕ). x ++ (y ++ (z ++ t))) (sym (flatten-append (chunksOf true n m 0 (l .leaves)) (indexOf n m l)))
       ∙ ap (λ (t : ℕ). F m depth count 0 (C t m)) ns
       ∙ ap (λ (t : ℕ). F t depth count 0 (C (spacingOf density) t)) (w .listings)
       ∙ ap (λ (t : ℕ). F (length (l .leaves)) t count 0 (C (spacingOf density) (length (l .leaves)))) (w .deep)
@@ -158,11 +159,13 @@ module _ (s : List ℕ) (density time language content : ℕ) (out : List ℕ) w
         → Worth (Length (headLength count)) density time language content s o
     worth t g o w lh = λ rest e.
         let front : take (headLength count) o ≡ head = ap (take (headLength count)) w ∙ take-at head (drop (headLength count) out) (headLength count) lh in
-        let file : newBook density time language s rest ≡ take (headLength count) o ++ rest =
-        ap (λ (n : ℕ). headBytes density time language n (layoutFor density n s) ++ rest) e ∙ ap (λ (x : List ℕ). x ++ rest) (sym front) in
-        let r = round-trip density time language s rest t g
-        (subst (λ (n : ℕ). takes density n s ≡ true) (sym e) h) (subst (λ (n : ℕ). smallEnough (layoutFor density n s) ≡ true) (sym e) small) in
-        subst (RoundTrip density time language content s) file (subst (λ (n : ℕ). RoundTrip density time language n s (newBook density time language s rest)) e r)
+        let l = layoutFor density content s in
+        let es = given content s in
+        let gs = level (spacingOf density) true es in
+        let file : newBook density time language l rest ≡ take (headLength count) o ++ rest =
+        ap (λ (n : ℕ). headBytes density time language n l ++ rest) e ∙ ap (λ (x : List ℕ). x ++ rest) (sym front) in
+        let cut : Cut density (length rest) es gs = subst (λ (n : ℕ). Cut density n es gs) (sym e) (takes-told density content s h) in
+        subst (RoundTrip density time language l es) file (round-trip density time language es gs rest t g cut small)
 
     pub answer-head : time < 2 ^ 32 → language < 2 ^ 32 → (o : List ℕ) → headLength count ≤ room → length head ≡ headLength count → o ≡ sets out 0 head
         → Answers (Length (headLength count)) o
@@ -172,9 +175,9 @@ module _ (s : List ℕ) (density time language content : ℕ) (out : List ℕ) w
         let p = w ∙ sets-parts out 0 head (omega arith) ∙ ap (λ (i : ℕ). head ++ drop i out) z in
         (rw (h, small, ← c, le-leb (headLength count) room enough), (p, worth t g o p lh))
 
-pub small-is : (content : ℕ) (s : List ℕ) (n : ℕ) (starts : List ℕ) (m depth count : ℕ) → Made content s n starts m depth count → smallEnough (layoutOf n (given content s)) ≡ true
+pub small-is : (s starts : List ℕ) (l : Layout) (m depth count : ℕ) → Made s starts l m depth count → smallEnough l ≡ true
 unfolding smallEnough
-small-is content s n starts m depth count w =
+small-is s starts l m depth count w =
     let c = w .counted in
     let d = w .deep in
-    rw (le-leb (chunkCount (layoutOf n (given content s))) 4096 (omega (arith, w .small)), le-leb (depthOf (layoutOf n (given content s))) 5 (omega (arith, w .flat)))
+    rw (le-leb (chunkCount l) 4096 (omega (arith, w .small)), le-leb (depthOf l) 5 (omega (arith, w .flat)))

@@ -11,13 +11,12 @@ use lib.Seq.{sets}
 use Rattle.fields.specs.Part.{part}
 use Rattle.fields.proofs.Put.{sets-after}
 use Rattle.source.specs.Stored.{Stored, storedOf}
-use Rattle.source.specs.Input.{given}
 use Rattle.pack.specs.Groups.{fits}
 use Rattle.pack.specs.Levels.{entrySize, level, childrenOf, levelsAbove}
 use Rattle.pack.specs.Starts.{chunksFrom, Starts, AllStarts}
 use Rattle.pack.proofs.Groups.{groups-some}
 use Rattle.pack.proofs.Above.{upper, above-more, above-none, length-children}
-use Rattle.layout.specs.Layout.{layoutOf, chunkCount, chunksOf}
+use Rattle.layout.specs.Layout.{Layout, layoutOver, chunkCount, chunksOf}
 use Rattle.head.specs.Plan.{LevelFits, IndexFits, indexOf}
 use Rattle.head.proofs.Lengths.{flatten-append, chunks-append, length-level}
 use Rattle.head.proofs.Shaping.{upper-is, upper-count}
@@ -28,7 +27,10 @@ first-level s starts c gs ls (AllStarts.level p ps) = p
 other-levels : (s starts : List ℕ) (c : ℕ) (gs : List (List Stored)) (ls : List (List (List Stored))) → AllStarts s starts c (gs ∷ ls) → AllStarts s starts (c + length gs) ls
 other-levels s starts c gs ls (AllStarts.level p ps) = ps
 
-module _ (content : ℕ) (s starts : List ℕ) (n m : ℕ) (out₀ : List ℕ) where
+module _ (content : ℕ) (s starts : List ℕ) (n m : ℕ) (leaves : List (List Stored)) (out₀ : List ℕ) where
+  abbrev l : Layout
+  l = layoutOver n leaves
+
   pub record Indexing (out : List ℕ) (base end : ℕ) : Type 0 where
     pub gs : List (List Stored)
     pub depth : ℕ
@@ -36,18 +38,18 @@ module _ (content : ℕ) (s starts : List ℕ) (n m : ℕ) (out₀ : List ℕ) w
     pub some : 0 < length gs
     pub kept : length out ≡ length out₀
     pub named : AllStarts s starts base (gs ∷ levelsAbove n (6 - depth) base gs)
-    pub count : end + length (flatten (levelsAbove n (6 - depth) base gs)) ≡ chunkCount (layoutOf n (given content s))
+    pub count : end + length (flatten (levelsAbove n (6 - depth) base gs)) ≡ chunkCount l
     pub deep : depth + length (levelsAbove n (6 - depth) base gs) ≤ 5
     pub whole :
         sets out (204 + 4096 * end) (flatten (chunksOf false n m end (flatten (levelsAbove n (6 - depth) base gs))))
-        ≡ sets out₀ (204 + 4096 * m) (flatten (indexOf content s n m))
+        ≡ sets out₀ (204 + 4096 * m) (flatten (indexOf n m l))
 
-  pub indexing-start : IndexFits content s starts n m (length out₀) → 0 < m → Indexing out₀ 0 m
-  unfolding layoutOf
+  pub indexing-start : IndexFits s starts l m (length out₀) → 0 < m → Indexing out₀ 0 m
+  unfolding layoutOver
   indexing-start f h =
       let e = f .listings in
       record {
-        gs = layoutOf n (given content s) .leaves;
+        gs = leaves;
         depth = 1;
         size = omega arith;
         some = omega arith;
@@ -58,8 +60,8 @@ module _ (content : ℕ) (s starts : List ℕ) (n m : ℕ) (out₀ : List ℕ) w
         whole = refl;
       }
 
-  module _ (f : IndexFits content s starts n m (length out₀)) (out : List ℕ) (base end : ℕ) (p : Indexing out base end) where
-    pub indexing-end : end - base ≤ 1 → out ≡ sets out₀ (204 + 4096 * m) (flatten (indexOf content s n m))
+  module _ (f : IndexFits s starts l m (length out₀)) (out : List ℕ) (base end : ℕ) (p : Indexing out base end) where
+    pub indexing-end : end - base ≤ 1 → out ≡ sets out₀ (204 + 4096 * m) (flatten (indexOf n m l))
     unfolding flatten chunksOf
     indexing-end h =
         let z : levelsAbove n (6 - p .depth) base (p .gs) ≡ [] = above-none n (6 - p .depth) base (p .gs) (omega (arith, p .size)) in
@@ -89,10 +91,10 @@ module _ (content : ℕ) (s starts : List ℕ) (n m : ℕ) (out₀ : List ℕ) w
       in-starts : end ≤ length starts
       in-starts = omega (arith, p .count, f .small, f .known)
 
-      up-count : length (chunksFrom content s (take end starts) false n base) ≡ length up
+      up-count : length (chunksFrom content s (take end starts) false n (end - base) base) ≡ length up
       up-count = upper-count content s n starts base end (p .gs) (p .size) in-starts named-here
 
-      pub indexing-room : LevelFits content s starts false n base end (length out)
+      pub indexing-room : LevelFits content s starts false n (end - base) base end (length out)
       indexing-room =
           record {
             known = in-starts;
@@ -101,24 +103,24 @@ module _ (content : ℕ) (s starts : List ℕ) (n m : ℕ) (out₀ : List ℕ) w
           }
 
       -- the level has a chunk
-      pub indexing-some : (next : ℕ) → next ≡ end + length (chunksFrom content s (take end starts) false n base) → (end < next) × (next ≤ 4096)
+      pub indexing-some : (next : ℕ) → next ≡ end + length (chunksFrom content s (take end starts) false n (end - base) base) → (end < next) × (next ≤ 4096)
       indexing-some next e =
           let g = groups-some (entrySize false) (fits false n) (childrenOf base (p .gs)) (omega (arith, length-children base (p .gs), p .some)) in
           (omega (arith, up-count), omega (arith, up-count, above-count, p .count, f .small))
 
-      pub indexing-turn : (after : List ℕ) (next : ℕ) → length after ≡ length out → next ≡ end + length (chunksFrom content s (take end starts) false n base)
-          → after ≡ sets out (204 + 4096 * end) (flatten (chunksOf false n m end (map (map (storedOf s)) (chunksFrom content s (take end starts) false n base))))
+      pub indexing-turn : (after : List ℕ) (next : ℕ) → length after ≡ length out → next ≡ end + length (chunksFrom content s (take end starts) false n (end - base) base)
+          → after ≡ sets out (204 + 4096 * end) (flatten (chunksOf false n m end (map (map (storedOf s)) (chunksFrom content s (take end starts) false n (end - base) base))))
           → Indexing after end next
       unfolding flatten
       indexing-turn after next l e w =
-          let L = chunksFrom content s (take end starts) false n base in
+          let L = chunksFrom content s (take end starts) false n (end - base) base in
           let ui = upper-is content s n starts base end (p .gs) (p .size) in-starts named-here in
           let uc = up-count in
           let g = groups-some (entrySize false) (fits false n) (childrenOf base (p .gs)) (omega (arith, length-children base (p .gs), p .some)) in
           let sz : end + length up ≡ next = omega arith in
           let here = flatten (chunksOf false n m end up) in
           let lh : length here ≡ 4096 * length up =
-          ap (λ (y : List (List Stored)). length (flatten (chunksOf false n m end y))) (sym ui) ∙ length-level false n m s content (take end starts) base end ∙ ap (λ (j : ℕ). 4096 * j) uc in
+          ap (λ (y : List (List Stored)). length (flatten (chunksOf false n m end y))) (sym ui) ∙ length-level false n m s content (take end starts) (end - base) base end ∙ ap (λ (j : ℕ). 4096 * j) uc in
           let there = flatten (chunksOf false n m next (flatten others)) in
           let place : 204 + 4096 * next ≡ 204 + 4096 * end + length here = omega arith in
           let both : here ++ there ≡ flatten (chunksOf false n m end (flatten (levelsAbove n (6 - p .depth) base (p .gs)))) =

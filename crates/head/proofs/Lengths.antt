@@ -43,13 +43,13 @@ rows-short s (e ∷ es) (more r rs) =
 
 module _ (k : Bool) (n m : ℕ) where
   -- those of a level, from a cursor on
-  pub length-level : (s : List ℕ) (content : ℕ) (starts : List ℕ) (at c : ℕ)
-      → length (flatten (chunksOf k n m c (map (map (storedOf s)) (chunksFrom content s starts k n at)))) ≡ 4096 * length (chunksFrom content s starts k n at)
-  length-level s content starts at c =
-      let gs = chunksFrom content s starts k n at in
-      let es : List Stored = map (storedOf s) (rowsFrom content s starts k at) in
-      let e : map (map (storedOf s)) gs ≡ level n k es = chunks-level content s starts k n at in
+  pub length-level : (s : List ℕ) (content : ℕ) (starts : List ℕ) (left at c : ℕ)
+      → length (flatten (chunksOf k n m c (map (map (storedOf s)) (chunksFrom content s starts k n left at)))) ≡ 4096 * length (chunksFrom content s starts k n left at)
+  length-level s content starts left at c =
+      let gs = chunksFrom content s starts k n left at in
+      let es : List Stored = map (storedOf s) (rowsFrom content s starts k left at) in
+      let e : map (map (storedOf s)) gs ≡ level n k es = chunks-level content s starts k n left at in
       ap (λ (y : List (List Stored)). length (flatten (chunksOf k n m c y))) e
-      ∙ length-all k n m c (level n k es) (level-fit n k es (rows-short s (rowsFrom content s starts k at) (rows-all content s starts k at)))
+      ∙ length-all k n m c (level n k es) (level-fit n k es (rows-short s (rowsFrom content s starts k left at) (rows-all content s starts k left at)))
       ∙ ap (λ (y : List (List Stored)). 4096 * length y) (sym e)
       ∙ ap (λ (j : ℕ). 4096 * j) (length-map gs (map (storedOf s)))

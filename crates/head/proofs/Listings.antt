@@ -1,54 +1,55 @@
--- The loop that reads the input: before each entry (`Reading`), and what a turn leaves. The next entry is at `here`, the name before it is the
--- `len` bytes at `from`, and f has the chunks so far.
+-- The loop that reads the input: before each entry (`Reading`), and what a turn leaves. The next entry is at `here`, and `left` may be taken; the
+-- name before it is the `len` bytes at `from`, and f has the chunks so far.
 -- Assumes nothing.
 use mathlib.Core.Path.{_≡_, refl, sym, ap, _∙_}
 use mathlib.Core.Bool.{Bool, true, false, cond}
 use mathlib.Core.List.{List, [], _∷_, map}
-use Prim.Native.Nat.{ℕ, _+_, _*_, _≤_, _<_}
+use Prim.Native.Nat.{ℕ, _+_, _-_, _*_, _^_, _≤_, _<_}
 use native.Mathlib.Omega.{arith}
 use native.Mathlib.Numerals.{add-one}
 use lib.ListN.{length, take, set, length-set}
 use lib.Seq.{sets}
+use lib.Dec.{eqb}
 use borrow.Author.Tests.{lt-leb, eq-eqb, ne-eqb}
 use Rattle.fields.specs.Part.{part}
 use Rattle.names.specs.Names.{below}
 use Rattle.entries.specs.Entry.{listingAt, nameOf}
 use Rattle.entries.specs.declared.Place.{Place}
-use Rattle.entries.specs.declared.Item.the-variants.{Good, Bad}
+use Rattle.entries.specs.declared.Item.the-variants.{Good}
 use Rattle.chunk.specs.Chunk.{headOf, quickCount}
 use Rattle.source.specs.Source.{itemFrom, rowsFrom}
 use Rattle.source.specs.Input.{inputRight}
-use Rattle.source.proofs.Rows.{given-row, rows-none, rows-more}
-use Rattle.source.proofs.Inputs.{passes, left, passes-start, passes-end, passes-more}
+use Rattle.source.proofs.Rows.{given-row, run-more}
+use Rattle.source.proofs.Inputs.{passes, ahead, passes-start, passes-end, passes-more}
 use Rattle.pack.specs.Groups.{fits, taken}
 use Rattle.pack.specs.Fill.{rowSize}
 use Rattle.pack.specs.Starts.{chunksFrom, firstAt}
 use Rattle.pack.proofs.Groups.{later, later-none, later-first, later-fits, later-full}
-use Rattle.pack.proofs.Sizes.{row-short}
+use Rattle.pack.proofs.Sizes.{row-short, row-long}
 use Rattle.pack.proofs.Filling.{fits-small}
 use Rattle.head.specs.Plan.{Next, openWith, startsWith, Listed}
 use Rattle.head.specs.declared.Open.{Open}
 
 module _ (content : ℕ) (s : List ℕ) (n : ℕ) (starts₀ : List ℕ) where
-  abbrev rows : ℕ → List Place
-  rows at = rowsFrom content s [] true at
+  abbrev rows : ℕ → ℕ → List Place
+  rows left at = rowsFrom content s [] true left at
 
   -- the chunks that begin behind those so far
-  abbrev ahead : Open → ℕ → List (List Place)
-  ahead f at = later (rowSize true) (fits true n) (f .count) (f .bytes) (rows at)
+  abbrev coming : Open → ℕ → ℕ → List (List Place)
+  coming f left at = later (rowSize true) (fits true n) (f .count) (f .bytes) (rows left at)
 
   abbrev all : List (List Place)
-  all = chunksFrom content s [] true n 0
+  all = chunksFrom content s [] true n (length s) 0
 
-  pub record Reading (starts : List ℕ) (here from len : ℕ) (f : Open) : Type 0 where
+  pub record Reading (starts : List ℕ) (left here from len : ℕ) (f : Open) : Type 0 where
     pub kept : length starts ≡ length starts₀
     pub named : from + len ≤ length s
     pub small : f .bytes ≤ 4096
-    pub counted : f .count ≤ here
-    pub numbered : f .chunks ≤ here
-    pub right : passes s here (part s from len) (left content s here) ≡ inputRight content s
-    pub rest : f .chunks + length (ahead f here) ≡ length all
-    pub whole : sets starts (f .chunks) (map firstAt (ahead f here)) ≡ sets starts₀ 0 (map firstAt all)
+    pub counted : f .count ≤ f .bytes
+    pub numbered : f .chunks + left ≤ length s
+    pub right : passes s here (part s from len) (ahead content s left here) ≡ inputRight content s
+    pub rest : f .chunks + length (coming f left here) ≡ length all
+    pub whole : sets starts (f .chunks) (map firstAt (coming f left here)) ≡ sets starts₀ 0 (map firstAt all)
 
   -- behind a full chunk nothing fits
   none-fits : (e : Place) → fits true n (0 + 1) (4096 + rowSize true e) ≡ false
@@ -56,11 +57,11 @@ module _ (content : ℕ) (s : List ℕ) (n : ℕ) (starts₀ : List ℕ) where
       let l : 4096 < headOf true + (4096 + rowSize true e) + (2 * quickCount n (0 + 1) + 2) = omega arith in
       lt-leb _ _ l
 
-  all-ahead : later (rowSize true) (fits true n) 0 4096 (rows 0) ≡ all
+  all-coming : later (rowSize true) (fits true n) 0 4096 (rows (length s) 0) ≡ all
   unfolding chunksFrom
-  all-ahead = later-first (rowSize true) (fits true n) 0 4096 (rows 0) none-fits
+  all-coming = later-first (rowSize true) (fits true n) 0 4096 (rows (length s) 0) none-fits
 
-  pub reading-start : (length s ≡ 0 → ⊥) → Reading starts₀ 0 0 0 (record { chunks = 0; count = 0; bytes = 4096 })
+  pub reading-start : (length s ≡ 0 → ⊥) → Reading starts₀ (length s) 0 0 0 (record { chunks = 0; count = 0; bytes = 4096 })
   reading-start h =
       record {
         kept = refl;
@@ -68,66 +69,69 @@ module _ (content : ℕ) (s : List ℕ) (n : ℕ) (starts₀ : List ℕ) where
         small = omega arith;
         counted = omega arith;
         numbered = omega arith;
-        right = passes-start content s h;
-        rest = omega (arith, ap length all-ahead);
-        whole = ap (λ (gs : List (List Place)). sets starts₀ 0 (map firstAt gs)) all-ahead;
+        right = passes-start content s (λ e. h (sym e));
+        rest = omega (arith, ap length all-coming);
+        whole = ap (λ (gs : List (List Place)). sets starts₀ 0 (map firstAt gs)) all-coming;
       }
 
-  module _ (starts : List ℕ) (here from len : ℕ) (f : Open) (p : Reading starts here from len f) where
-    module _ (q : listingAt content s here ≡ Bad) where
-      none-ahead : ahead f here ≡ []
+  module _ (starts : List ℕ) (left here from len : ℕ) (f : Open) (p : Reading starts left here from len f) where
+    module _ (q : ahead content s left here ≡ []) where
+      none-coming : coming f left here ≡ []
       unfolding itemFrom
-      none-ahead = ap (later (rowSize true) (fits true n) (f .count) (f .bytes)) (rows-none content s [] true here q) ∙ later-none (rowSize true) (fits true n) (f .count) (f .bytes)
+      none-coming = ap (later (rowSize true) (fits true n) (f .count) (f .bytes)) q ∙ later-none (rowSize true) (fits true n) (f .count) (f .bytes)
+
+      right-here : inputRight content s ≡ eqb here (length s)
+      right-here = sym (p .right) ∙ passes-end content s left here (part s from len) q
 
       pub reading-end : here ≡ length s → Listed content s n starts₀ starts (f .chunks)
       reading-end h =
           record {
-            right = sym (p .right) ∙ passes-end content s here (part s from len) q ∙ eq-eqb here (length s) h;
-            count = omega (arith, ap length none-ahead, p .rest);
-            places = ap (λ (gs : List (List Place)). sets starts (f .chunks) (map firstAt gs)) (sym none-ahead) ∙ p .whole;
+            right = right-here ∙ eq-eqb here (length s) h;
+            count = omega (arith, ap length none-coming, p .rest);
+            places = ap (λ (gs : List (List Place)). sets starts (f .chunks) (map firstAt gs)) (sym none-coming) ∙ p .whole;
           }
 
       pub reading-short : (here ≡ length s → ⊥) → inputRight content s ≡ false
-      reading-short h = sym (p .right) ∙ passes-end content s here (part s from len) q ∙ ne-eqb here (length s) h
+      reading-short h = right-here ∙ ne-eqb here (length s) h
 
-    module _ (e : Place) (q : listingAt content s here ≡ Good e) where
+    module _ (e : Place) (some : 0 < left) (q : listingAt content s here ≡ Good e) where
       pub reading-falls : below (part s from len) (nameOf s e) ≡ false → inputRight content s ≡ false
-      reading-falls h = rw h at (sym (p .right) ∙ passes-more content s here (part s from len) e q)
+      reading-falls h = rw h at (sym (p .right) ∙ passes-more content s left here (part s from len) e some q)
 
-      pub reading-next : Next f e
-      reading-next =
+      pub reading-next : length s < 2 ^ 64 → Next f e
+      reading-next l =
           let g = given-row content s here e q in
           record {
             short = g .row .short;
             small = p .small;
-            counted = omega (arith, g .moves, p .counted);
-            numbered = omega (arith, g .moves, p .numbered);
+            counted = p .counted;
+            numbered = omega (arith, p .numbered);
           }
 
-      row-ahead : rows here ≡ e ∷ rows (e .next)
+      row-coming : rows left here ≡ e ∷ rows (left - 1) (e .next)
       unfolding itemFrom
-      row-ahead = rows-more content s [] true here e q
+      row-coming = run-more (itemFrom content s [] true) left here e some q
 
       module _ (h : below (part s from len) (nameOf s e) ≡ true) where
-        right-on : passes s (e .next) (nameOf s e) (left content s (e .next)) ≡ inputRight content s
-        right-on = rw h at (sym (passes-more content s here (part s from len) e q) ∙ p .right)
+        right-on : passes s (e .next) (nameOf s e) (ahead content s (left - 1) (e .next)) ≡ inputRight content s
+        right-on = rw h at (sym (passes-more content s left here (part s from len) e some q) ∙ p .right)
 
         -- by whether it fits
         turn : (t : Bool) → fits true n (f .count + 1) (f .bytes + rowSize true e) ≡ t
-            → Reading (cond t starts (set starts (f .chunks) (e .at))) (e .next) (e .start) (e .len)
+            → Reading (cond t starts (set starts (f .chunks) (e .at))) (left - 1) (e .next) (e .start) (e .len)
             (cond t (record { chunks = f .chunks; count = f .count + 1; bytes = f .bytes + rowSize true e }) (record { chunks = f .chunks + 1; count = 1; bytes = rowSize true e }))
         unfolding firstAt
         turn true z =
             let g = given-row content s here e q in
             let x : Open = record { chunks = f .chunks; count = f .count + 1; bytes = f .bytes + rowSize true e } in
-            let a : ahead f here ≡ ahead x (e .next) =
-            ap (later (rowSize true) (fits true n) (f .count) (f .bytes)) row-ahead ∙ later-fits (rowSize true) (fits true n) (f .count) (f .bytes) e (rows (e .next)) z in
+            let a : coming f left here ≡ coming x (left - 1) (e .next) =
+            ap (later (rowSize true) (fits true n) (f .count) (f .bytes)) row-coming ∙ later-fits (rowSize true) (fits true n) (f .count) (f .bytes) e (rows (left - 1) (e .next)) z in
             record {
               kept = p .kept;
               named = g .row .inside;
               small = omega (arith, fits-small true n (f .count + 1) (f .bytes + rowSize true e) z);
-              counted = omega (arith, g .moves, p .counted);
-              numbered = omega (arith, g .moves, p .numbered);
+              counted = omega (arith, p .counted, row-long true e, g .row .some);
+              numbered = omega (arith, p .numbered);
               right = right-on;
               rest = omega (arith, ap length a, p .rest);
               whole = ap (λ (gs : List (List Place)). sets starts (f .chunks) (map firstAt gs)) (sym a) ∙ p .whole;
@@ -135,24 +139,24 @@ module _ (content : ℕ) (s : List ℕ) (n : ℕ) (starts₀ : List ℕ) where
         turn false z =
             let g = given-row content s here e q in
             let x : Open = record { chunks = f .chunks + 1; count = 1; bytes = rowSize true e } in
-            let first : List Place = e ∷ take (taken (rowSize true) (fits true n) 1 (rowSize true e) (rows (e .next))) (rows (e .next)) in
-            let a : ahead f here ≡ first ∷ ahead x (e .next) =
-            ap (later (rowSize true) (fits true n) (f .count) (f .bytes)) row-ahead ∙ later-full (rowSize true) (fits true n) (f .count) (f .bytes) e (rows (e .next)) z in
+            let first : List Place = e ∷ take (taken (rowSize true) (fits true n) 1 (rowSize true e) (rows (left - 1) (e .next))) (rows (left - 1) (e .next)) in
+            let a : coming f left here ≡ first ∷ coming x (left - 1) (e .next) =
+            ap (later (rowSize true) (fits true n) (f .count) (f .bytes)) row-coming ∙ later-full (rowSize true) (fits true n) (f .count) (f .bytes) e (rows (left - 1) (e .next)) z in
             record {
               kept = length-set starts (f .chunks) (e .at) ∙ p .kept;
               named = g .row .inside;
               small = omega (arith, row-short true e (g .row .short));
-              counted = omega (arith, g .moves);
-              numbered = omega (arith, g .moves, p .numbered);
+              counted = omega (arith, row-long true e, g .row .some);
+              numbered = omega (arith, p .numbered);
               right = right-on;
               rest = omega (arith, ap length a, p .rest);
               whole =
-                  ap (λ (i : ℕ). sets (set starts (f .chunks) (e .at)) i (map firstAt (ahead x (e .next)))) (add-one (f .chunks))
+                  ap (λ (i : ℕ). sets (set starts (f .chunks) (e .at)) i (map firstAt (coming x (left - 1) (e .next)))) (add-one (f .chunks))
                   ∙ ap (λ (gs : List (List Place)). sets starts (f .chunks) (map firstAt gs)) (sym a)
                   ∙ p .whole;
             }
 
-        pub reading-turn : (x : Open) (after : List ℕ) → x ≡ openWith n f e → after ≡ startsWith n f e starts → Reading after (e .next) (e .start) (e .len) x
+        pub reading-turn : (x : Open) (after : List ℕ) → x ≡ openWith n f e → after ≡ startsWith n f e starts → Reading after (left - 1) (e .next) (e .start) (e .len) x
         unfolding openWith startsWith
         reading-turn x after i w = rw (i, w) (turn _ refl)
 

@@ -13,75 +13,75 @@ use Rattle.fields.specs.Part.{part}
 use Rattle.fields.proofs.Tests.{and-no}
 use lib.Dec.{leb}
 use Rattle.source.specs.Stored.{Stored, storedOf}
-use Rattle.source.specs.Input.{given}
 use Rattle.pack.specs.Levels.{level, childrenOf, levelsAbove}
 use Rattle.pack.specs.Starts.{chunksFrom, firstAt, Starts, AllStarts}
-use Rattle.pack.proofs.Levels.{chunks-given, chunks-children, starts-of}
+use Rattle.pack.proofs.Levels.{chunks-children, starts-of}
 use Rattle.pack.proofs.Above.{upper, above-more, above-none}
-use Rattle.layout.specs.Layout.{layoutOf, chunkCount, depthOf, smallEnough}
+use Rattle.layout.specs.Layout.{Layout, layoutOver, chunkCount, depthOf, smallEnough}
 use Rattle.head.specs.Plan.{Listed, LevelPlanned, Made}
-use Rattle.fields.proofs.Parts.{part-alike}
+use Rattle.fields.proofs.Parts.{length-part, part-alike}
 use Rattle.head.proofs.Lent.{written-back, front-kept}
 
 -- ---- a level above chunks whose first names are known
 
 module _ (content : ℕ) (s : List ℕ) (n : ℕ) (starts : List ℕ) (base end : ℕ) (gs : List (List Stored))
     (size : base + length gs ≡ end) (inside : end ≤ length starts) (named : Starts s (part starts base (length gs)) gs) where
-  pub upper-is : map (map (storedOf s)) (chunksFrom content s (take end starts) false n base) ≡ upper n 0 base gs
+  pub upper-is : map (map (storedOf s)) (chunksFrom content s (take end starts) false n (end - base) base) ≡ upper n 0 base gs
   upper-is =
       let l : length (take base starts) ≡ base = length-take-le base starts (omega arith) in
       let e : take end starts ≡ take base starts ++ part starts base (length gs) = ap (λ (m : ℕ). take m starts) (sym size) ∙ take-add base (length gs) starts in
-      ap₂ (λ (y : List ℕ) (b : ℕ). map (map (storedOf s)) (chunksFrom content s y false n b)) e (sym l)
+      let ps = part starts base (length gs) in
+      let c : end - base ≡ length ps = omega (arith, length-part starts base (length gs) (omega arith)) in
+      ap₂ (λ (y : List ℕ) (b : ℕ). map (map (storedOf s)) (chunksFrom content s y false n (end - base) b)) e (sym l)
+      ∙ ap (λ (j : ℕ). map (map (storedOf s)) (chunksFrom content s (take base starts ++ ps) false n j (length (take base starts)))) c
       ∙ chunks-children content s (take base starts) (part starts base (length gs)) n gs named
       ∙ ap (λ (b : ℕ). level n false (childrenOf b gs)) l
 
-  pub upper-count : length (chunksFrom content s (take end starts) false n base) ≡ length (upper n 0 base gs)
-  upper-count = sym (length-map (chunksFrom content s (take end starts) false n base) (map (storedOf s))) ∙ ap length upper-is
+  pub upper-count : length (chunksFrom content s (take end starts) false n (end - base) base) ≡ length (upper n 0 base gs)
+  upper-count = sym (length-map (chunksFrom content s (take end starts) false n (end - base) base) (map (storedOf s))) ∙ ap length upper-is
 
 -- ---- too many
 
-too-many : (n content : ℕ) (s : List ℕ) → 4096 < chunkCount (layoutOf n (given content s)) → smallEnough (layoutOf n (given content s)) ≡ false
+too-many : (l : Layout) → 4096 < chunkCount l → smallEnough l ≡ false
 unfolding smallEnough
-too-many n content s h = rw (lt-leb (chunkCount (layoutOf n (given content s))) 4096 h)
+too-many l h = rw (lt-leb (chunkCount l) 4096 h)
 
-too-deep : (n content : ℕ) (s : List ℕ) → 5 < depthOf (layoutOf n (given content s)) → smallEnough (layoutOf n (given content s)) ≡ false
+too-deep : (l : Layout) → 5 < depthOf l → smallEnough l ≡ false
 unfolding smallEnough
-too-deep n content s h = rw (lt-leb (depthOf (layoutOf n (given content s))) 5 h) (and-no (leb (chunkCount (layoutOf n (given content s))) 4096))
+too-deep l h = rw (lt-leb (depthOf l) 5 h) (and-no (leb (chunkCount l) 4096))
 
 -- ---- the loop
 
-module _ (content : ℕ) (s : List ℕ) (n : ℕ) where
-  abbrev leaves : List (List Stored)
-  leaves = layoutOf n (given content s) .leaves
-
-  abbrev levels : List (List (List Stored))
-  levels = layoutOf n (given content s) .levels
+module _ (content : ℕ) (s : List ℕ) (n : ℕ) (leaves : List (List Stored)) where
+  abbrev l : Layout
+  l = layoutOver n leaves
 
   pub record Shaping (m : ℕ) (starts : List ℕ) (depth base end : ℕ) : Type 0 where
     pub gs : List (List Stored)
-    pub listings : m ≡ length leaves
+    pub listings : m ≡ length (l .leaves)
     pub size : base + length gs ≡ end
     pub inside : end ≤ length starts
     pub kept : length starts ≡ 4096
     pub low : 1 ≤ depth
     pub high : depth ≤ 5
     pub named : Starts s (part starts base (length gs)) gs
-    pub count : end + length (flatten (levelsAbove n (6 - depth) base gs)) ≡ chunkCount (layoutOf n (given content s))
-    pub deep : depth + length (levelsAbove n (6 - depth) base gs) ≡ depthOf (layoutOf n (given content s))
-    pub final : (f : List ℕ) → take end f ≡ take end starts → AllStarts s f base (gs ∷ levelsAbove n (6 - depth) base gs) → AllStarts s f 0 (leaves ∷ levels)
+    pub count : end + length (flatten (levelsAbove n (6 - depth) base gs)) ≡ chunkCount l
+    pub deep : depth + length (levelsAbove n (6 - depth) base gs) ≡ depthOf l
+    pub final : (f : List ℕ) → take end f ≡ take end starts → AllStarts s f base (gs ∷ levelsAbove n (6 - depth) base gs) → AllStarts s f 0 (l .leaves ∷ l .levels)
 
-  module _ (starts₀ starts : List ℕ) (m : ℕ) (kept : length starts₀ ≡ 4096) (same : length starts ≡ length starts₀) (p : Listed content s n starts₀ starts m) where
-    listing-count : length (chunksFrom content s [] true n 0) ≡ length leaves
-    unfolding layoutOf
-    listing-count = sym (length-map (chunksFrom content s [] true n 0) (map (storedOf s))) ∙ ap length (chunks-given content s [] n)
+  module _ (starts₀ starts : List ℕ) (m : ℕ) (kept : length starts₀ ≡ 4096) (same : length starts ≡ length starts₀) (p : Listed content s n starts₀ starts m)
+      (is : map (map (storedOf s)) (chunksFrom content s [] true n (length s) 0) ≡ leaves) where
+    listing-count : length (chunksFrom content s [] true n (length s) 0) ≡ length (l .leaves)
+    unfolding layoutOver
+    listing-count = sym (length-map (chunksFrom content s [] true n (length s) 0) (map (storedOf s))) ∙ ap length is
 
-    pub first-over : 4096 < m → smallEnough (layoutOf n (given content s)) ≡ false
-    first-over h = too-many n content s (omega (arith, p .count, listing-count))
+    pub first-over : 4096 < m → smallEnough l ≡ false
+    first-over h = too-many l (omega (arith, p .count, listing-count))
 
     pub shaping-start : m ≤ 4096 → Shaping m starts 1 0 m
-    unfolding layoutOf
+    unfolding layoutOver
     shaping-start h =
-        let L = chunksFrom content s [] true n 0 in
+        let L = chunksFrom content s [] true n (length s) 0 in
         let c = p .count in
         let ps : List ℕ = map firstAt L in
         let lp : length ps ≡ length L = length-map L firstAt in
@@ -96,7 +96,7 @@ module _ (content : ℕ) (s : List ℕ) (n : ℕ) where
           kept = omega arith;
           low = omega arith;
           high = omega arith;
-          named = subst (λ (y : List ℕ). Starts s y leaves) (sym back) (subst (Starts s ps) (chunks-given content s [] n) (starts-of content s [] true n 0));
+          named = subst (λ (y : List ℕ). Starts s y leaves) (sym back) (subst (Starts s ps) is (starts-of content s [] true n (length s) 0));
           count = omega (arith, listing-count);
           deep = refl;
           final = λ f e a. a;
@@ -104,7 +104,7 @@ module _ (content : ℕ) (s : List ℕ) (n : ℕ) where
 
   module _ (m : ℕ) (starts : List ℕ) (depth base end : ℕ) (p : Shaping m starts depth base end) where
     -- one level is left
-    pub shaping-end : end - base ≤ 1 → Made content s n starts m depth end
+    pub shaping-end : end - base ≤ 1 → Made s starts l m depth end
     unfolding flatten
     shaping-end h =
         let g = p .gs in
@@ -131,23 +131,23 @@ module _ (content : ℕ) (s : List ℕ) (n : ℕ) where
           ∙ above-more n (6 - (depth + 1)) base (p .gs) (omega (arith, p .size))
           ∙ ap (λ (j : ℕ). up ∷ levelsAbove n (6 - (depth + 1)) j up) (p .size)
 
-      pub shaping-deep : depth ≡ 5 → smallEnough (layoutOf n (given content s)) ≡ false
-      shaping-deep h = too-deep n content s (omega (arith, p .deep, ap length next-level))
+      pub shaping-deep : depth ≡ 5 → smallEnough l ≡ false
+      shaping-deep h = too-deep l (omega (arith, p .deep, ap length next-level))
 
       above-count : length (flatten (levelsAbove n (6 - depth) base (p .gs))) ≡ length up + length (flatten (levelsAbove n (6 - (depth + 1)) end up))
       unfolding flatten
       above-count = ap (λ (l : List (List (List Stored))). length (flatten l)) next-level ∙ length-append up (flatten (levelsAbove n (6 - (depth + 1)) end up))
 
       module _ (after : List ℕ) (next : ℕ) (same : length after ≡ length starts) (q : LevelPlanned content s n base end starts after next) where
-        up-count : length (chunksFrom content s (take end starts) false n base) ≡ length up
+        up-count : length (chunksFrom content s (take end starts) false n (end - base) base) ≡ length up
         up-count = upper-count content s n starts base end (p .gs) (p .size) (p .inside) (p .named)
 
-        pub shaping-over : length starts < next → smallEnough (layoutOf n (given content s)) ≡ false
-        shaping-over h = too-many n content s (omega (arith, q .over h, up-count, above-count, p .count, p .kept))
+        pub shaping-over : length starts < next → smallEnough l ≡ false
+        shaping-over h = too-many l (omega (arith, q .over h, up-count, above-count, p .count, p .kept))
 
         pub shaping-turn : next ≤ length starts → (depth ≡ 5 → ⊥) → Shaping m after (depth + 1) end next
         shaping-turn h five =
-            let L = chunksFrom content s (take end starts) false n base in
+            let L = chunksFrom content s (take end starts) false n (end - base) base in
             let c = q .count h in
             let ps : List ℕ = map firstAt L in
             let lp : length ps ≡ length L = length-map L firstAt in
@@ -167,7 +167,7 @@ module _ (content : ℕ) (s : List ℕ) (n : ℕ) where
               kept = same ∙ p .kept;
               low = omega arith;
               high = omega (arith, p .high);
-              named = subst (λ (y : List ℕ). Starts s y up) (sym back) (subst (Starts s ps) ui (starts-of content s (take end starts) false n base));
+              named = subst (λ (y : List ℕ). Starts s y up) (sym back) (subst (Starts s ps) ui (starts-of content s (take end starts) false n (end - base) base));
               count = omega (arith, above-count, p .count);
               deep = omega (arith, ap length next-level, p .deep);
               final = λ f e a.

@@ -7,9 +7,10 @@ use mathlib.Core.List.{List, _++_}
 use lib.ListN.{length, take, drop}
 use lib.Dec.{leb}
 use Rattle.header.specs.Header.{none}
+use Rattle.source.specs.Input.{given}
 use Rattle.layout.specs.Headers.{headLength}
 use Rattle.layout.specs.Layout.{takes, layoutFor, chunkCount, smallEnough}
-use Rattle.layout.specs.RoundTrip.{RoundTrip}
+use Rattle.roundtrip.specs.RoundTrip.{RoundTrip}
 use Rattle.head.specs.declared.Written.{Written}
 use Rattle.head.specs.declared.Written.the-variants.{Length, Refused}
 
@@ -38,5 +39,5 @@ outputFor (Refused r) head out = out
 
 abbrev pub Worth : Written → (density time language content : ℕ) → List ℕ → List ℕ → Type 0
 Worth (Length n) density time language content s out =
-    (rest : List ℕ) → length rest ≡ content → RoundTrip density time language content s (take n out ++ rest)
+    (rest : List ℕ) → length rest ≡ content → RoundTrip density time language (layoutFor density content s) (given content s) (take n out ++ rest)
 Worth (Refused r) density time language content s out = Unit {0}

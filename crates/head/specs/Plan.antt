@@ -13,7 +13,7 @@ use Rattle.pack.specs.Groups.{fits}
 use Rattle.pack.specs.Fill.{rowSize}
 use Rattle.pack.specs.Starts.{chunksFrom, firstAt, AllStarts}
 use Rattle.layout.specs.Headers.{headLength, fileHeader, sectionZero, directoryHeader}
-use Rattle.layout.specs.Layout.{layoutOf, chunkCount, depthOf, smallEnough, rootOf, chunksOf}
+use Rattle.layout.specs.Layout.{Layout, layoutOf, chunkCount, depthOf, smallEnough, rootOf, chunksOf}
 use Rattle.head.specs.declared.Shape.{Shape}
 use Rattle.head.specs.declared.Shape.the-variants.{Chunks, TooMany}
 use Rattle.head.specs.declared.Leaves.{Leaves}
@@ -27,12 +27,12 @@ limits density content = leb density 7 && ltb content (2 ^ 62)
 
 -- ---- the listing chunks so far, as the input is read, and the entry that comes next
 
--- what is known of them: no number grows past the bytes that are read
+-- what is known of them: no number grows past the bytes of a chunk, or past what can be taken
 pub record Next (f : Open) (e : Place) : Type 0 where
   pub short : e .len ≤ 1024
   pub small : f .bytes ≤ 4096
-  pub counted : f .count < e .next
-  pub numbered : f .chunks < e .next
+  pub counted : f .count ≤ f .bytes
+  pub numbered : f .chunks + 1 < 2 ^ 64
 
 -- with that entry: in the last chunk, or as the first of a new one
 unfoldable pub openWith : ℕ → Open → Place → Open
@@ -50,8 +50,8 @@ startsWith n f e starts =
 
 pub record Listed (content : ℕ) (s : List ℕ) (n : ℕ) (starts₀ starts : List ℕ) (m : ℕ) : Type 0 where
   pub right : inputRight content s ≡ true
-  pub count : m ≡ length (chunksFrom content s [] true n 0)
-  pub places : starts ≡ sets starts₀ 0 (map firstAt (chunksFrom content s [] true n 0))
+  pub count : m ≡ length (chunksFrom content s [] true n (length s) 0)
+  pub places : starts ≡ sets starts₀ 0 (map firstAt (chunksFrom content s [] true n (length s) 0))
 
 abbrev pub ListingPlanned : ℕ → List ℕ → ℕ → List ℕ → List ℕ → Leaves → Type 0
 ListingPlanned content s n starts₀ starts (Count m) = Listed content s n starts₀ starts m
@@ -61,43 +61,43 @@ ListingPlanned content s n starts₀ starts Leaves.Bad = inputRight content s �
 
 pub record LevelPlanned (content : ℕ) (s : List ℕ) (n base end : ℕ) (starts₀ starts : List ℕ) (r : ℕ) : Type 0 where
   pub most : r ≤ length starts₀ + 1
-  pub count : r ≤ length starts₀ → r ≡ end + length (chunksFrom content s (take end starts₀) false n base)
-  pub places : r ≤ length starts₀ → starts ≡ sets starts₀ end (map firstAt (chunksFrom content s (take end starts₀) false n base))
-  pub over : length starts₀ < r → length starts₀ < end + length (chunksFrom content s (take end starts₀) false n base)
+  pub count : r ≤ length starts₀ → r ≡ end + length (chunksFrom content s (take end starts₀) false n (end - base) base)
+  pub places : r ≤ length starts₀ → starts ≡ sets starts₀ end (map firstAt (chunksFrom content s (take end starts₀) false n (end - base) base))
+  pub over : length starts₀ < r → length starts₀ < end + length (chunksFrom content s (take end starts₀) false n (end - base) base)
 
--- ---- all levels, planned
+-- ---- all levels of a layout, planned: m is the number of its listing chunks
 
-pub record Made (content : ℕ) (s : List ℕ) (n : ℕ) (starts : List ℕ) (m depth count : ℕ) : Type 0 where
-  pub listings : m ≡ length (layoutOf n (given content s) .leaves)
-  pub deep : depth ≡ depthOf (layoutOf n (given content s))
-  pub counted : count ≡ chunkCount (layoutOf n (given content s))
+pub record Made (s starts : List ℕ) (l : Layout) (m depth count : ℕ) : Type 0 where
+  pub listings : m ≡ length (l .leaves)
+  pub deep : depth ≡ depthOf l
+  pub counted : count ≡ chunkCount l
   pub small : count ≤ 4096
   pub flat : depth ≤ 5
-  pub named : AllStarts s starts 0 (layoutOf n (given content s) .leaves ∷ layoutOf n (given content s) .levels)
+  pub named : AllStarts s starts 0 (l .leaves ∷ l .levels)
 
 abbrev pub Planned : ℕ → List ℕ → ℕ → List ℕ → Shape → Type 0
-Planned content s n starts (Chunks m depth count) = (inputRight content s ≡ true) × Made content s n starts m depth count
+Planned content s n starts (Chunks m depth count) = (inputRight content s ≡ true) × Made s starts (layoutOf n (given content s)) m depth count
 Planned content s n starts TooMany = (inputRight content s ≡ true) × (smallEnough (layoutOf n (given content s)) ≡ false)
 Planned content s n starts Shape.Bad = inputRight content s ≡ false
 
 -- ---- room for a level, and for all index levels
 
-pub record LevelFits (content : ℕ) (s starts : List ℕ) (k : Bool) (n base end room : ℕ) : Type 0 where
+pub record LevelFits (content : ℕ) (s starts : List ℕ) (k : Bool) (n left at end room : ℕ) : Type 0 where
   pub known : end ≤ length starts
-  pub few : end + length (chunksFrom content s (take end starts) k n base) ≤ 4096
-  pub enough : headLength (end + length (chunksFrom content s (take end starts) k n base)) ≤ room
+  pub few : end + length (chunksFrom content s (take end starts) k n left at) ≤ 4096
+  pub enough : headLength (end + length (chunksFrom content s (take end starts) k n left at)) ≤ room
 
 -- the index chunks
-abbrev pub indexOf : ℕ → List ℕ → ℕ → ℕ → List (List ℕ)
-indexOf content s n m = chunksOf false n m m (flatten (layoutOf n (given content s) .levels))
+abbrev pub indexOf : ℕ → ℕ → Layout → List (List ℕ)
+indexOf n m l = chunksOf false n m m (flatten (l .levels))
 
-pub record IndexFits (content : ℕ) (s starts : List ℕ) (n m room : ℕ) : Type 0 where
-  pub listings : m ≡ length (layoutOf n (given content s) .leaves)
-  pub small : chunkCount (layoutOf n (given content s)) ≤ 4096
-  pub flat : depthOf (layoutOf n (given content s)) ≤ 5
+pub record IndexFits (s starts : List ℕ) (l : Layout) (m room : ℕ) : Type 0 where
+  pub listings : m ≡ length (l .leaves)
+  pub small : chunkCount l ≤ 4096
+  pub flat : depthOf l ≤ 5
   pub known : length starts ≡ 4096
-  pub named : AllStarts s starts 0 (layoutOf n (given content s) .leaves ∷ layoutOf n (given content s) .levels)
-  pub enough : headLength (chunkCount (layoutOf n (given content s))) ≤ room
+  pub named : AllStarts s starts 0 (l .leaves ∷ l .levels)
+  pub enough : headLength (chunkCount l) ≤ room
 
 -- ---- the headers, and the whole
 
@@ -105,8 +105,8 @@ unfoldable pub headersOf : (density time language content m depth count : ℕ) �
 headersOf density time language content m depth count =
     fileHeader time language count ++ (sectionZero (headLength count + content) ++ directoryHeader language density depth (rootOf depth count) (m - 1) count)
 
-pub record Ready (content : ℕ) (s starts : List ℕ) (n m depth count room : ℕ) : Type 0 where
-  pub made : Made content s n starts m depth count
+pub record Ready (s starts : List ℕ) (l : Layout) (m depth count room : ℕ) : Type 0 where
+  pub made : Made s starts l m depth count
   pub known : length starts ≡ 4096
   pub some : 0 < m
   pub enough : headLength count ≤ room

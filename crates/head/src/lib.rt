@@ -1,29 +1,29 @@
 // The head of a new book: everything in front of the content.
 ghost use mathlib.Core.Path.{_≡_};
-ghost use mathlib.Core.Bool.{Bool};
 ghost use mathlib.Core.List.{flatten, map};
-ghost use Prim.Native.Nat.{ℕ, _+_, _-_, _*_, _<_, _≤_};
+ghost use Prim.Native.Nat.{_+_, _*_, _<_, _≤_};
 ghost use lib.ListN.{length, take};
 ghost use lib.Seq.{sets};
 ghost use Rattle.fields.specs.Part.{part};
 ghost use Rattle.names.specs.Names.{below};
+ghost use Rattle.entries.specs.Entry.{listingAt};
 ghost use Rattle.chunk.specs.Chunk.{spacingOf};
 ghost use Rattle.source.specs.Stored.{storedOf};
-ghost use Rattle.source.specs.Source.{rowsFrom};
+ghost use Rattle.source.specs.Source.{takenOf, rowsFrom};
 ghost use Rattle.source.specs.Input.{given};
 ghost use Rattle.pack.specs.Fill.{extentFrom};
 ghost use Rattle.pack.specs.Starts.{chunksFrom};
 ghost use Rattle.compose.specs.NewChunk.{newChunk};
 ghost use Rattle.compose.specs.Steps.{groupFrom};
 ghost use Rattle.layout.specs.Headers.{fileHeader, sectionZero, directoryHeader};
-ghost use Rattle.layout.specs.Layout.{layoutOf, layoutFor, prevOf, nextOf, rootOf, chunksOf, headBytes};
+ghost use Rattle.layout.specs.Layout.{layoutOf, layoutFor, prevOf, nextOf, chunksOf, headBytes};
 ghost use Rattle.head.specs.Head.{written, outputFor, Worth};
 ghost use Rattle.head.specs.Plan.{limits, Next, openWith, startsWith, ListingPlanned, LevelPlanned, Planned, LevelFits, IndexFits, indexOf, headersOf, Ready};
 use book::Refusal;
+use entries::Item;
 use entries::Place;
 use pack::Extent;
 use source::Cursor;
-use source::Taken;
 
 // The length of the head that was written, or a refusal: 18, 19 or 20.
 pub enum Written {
@@ -109,6 +109,17 @@ fn add(starts: &mut [usize], n: usize, f: Open, e: Place) -> Open
     next
 }
 
+// The entry of the input at a place; bad where no more may be taken, or no good entry stands there. It is `source::step` for a listing level alone: small
+// enough for the compiler to put it into the loop.
+fn given_at(input: &[u8], content: u64, at: usize, left: usize) -> Item
+    ensures { λ r. ⌜ r ≡ takenOf left (listingAt content (now (input .entry)) at) ⌝ }
+{
+    if left == 0 {
+        return Item::Bad;
+    }
+    entries::listing_at(input, at, content)
+}
+
 // Checks the input and plans the listing level, in one pass: the input is one good entry or more, one directly behind another to its end, with
 // names that rise. Too many chunks are counted on, since a fault of the input goes before them.
 fn plan_listing(input: &[u8], content: u64, n: usize, starts: &mut [usize]) -> Leaves
@@ -117,10 +128,8 @@ fn plan_listing(input: &[u8], content: u64, n: usize, starts: &mut [usize]) -> L
     if input.len() == 0 {
         return Leaves::Bad;
     }
-    let mut c = Cursor {
-        listing: true,
-        at: 0,
-    };
+    let mut at: usize = 0;
+    let mut left = input.len();
     let mut from: usize = 0;
     let mut len: usize = 0;
     // no chunk yet: as behind a full one
@@ -130,8 +139,8 @@ fn plan_listing(input: &[u8], content: u64, n: usize, starts: &mut [usize]) -> L
         bytes: 4096,
     };
     loop {
-        let Taken::Entry(e, next) = source::step(input, &[], content, c) else {
-            if c.at == input.len() {
+        let Item::Good(e) = given_at(input, content, at, left) else {
+            if at == input.len() {
                 return Leaves::Count(f.chunks);
             }
             return Leaves::Bad;
@@ -142,7 +151,8 @@ fn plan_listing(input: &[u8], content: u64, n: usize, starts: &mut [usize]) -> L
         f = add(starts, n, f, e);
         from = e.start;
         len = e.len;
-        c = next;
+        at = e.next;
+        left -= 1;
     }
 }
 
@@ -156,16 +166,18 @@ fn plan_level(
     base: usize,
     end: usize,
 ) -> usize
-    requires { ⌜ (end ≤ length (now starts)) × (length (now starts) ≤ 4096) ⌝ }
+    requires { ⌜ (base ≤ end) × (end ≤ length (now starts)) × (length (now starts) ≤ 4096) ⌝ }
     ensures { λ r. ⌜ LevelPlanned content (now (input .entry)) n base end (now (starts .entry)) (now (starts .exit)) r ⌝ }
 {
+    let left = end - base;
     let mut c = Cursor {
         listing: false,
         at: base,
+        left,
     };
     let mut j = end;
     loop {
-        let Taken::Entry(e, _) = source::step(input, &starts[..end], content, c) else {
+        let Item::Good(e) = source::step(input, &starts[..end], content, c) else {
             return j;
         };
         if starts.len() <= j {
@@ -176,6 +188,7 @@ fn plan_level(
         c = Cursor {
             listing: false,
             at: f.at,
+            left: f.left,
         };
         j += 1;
     }
@@ -223,7 +236,7 @@ fn put_chunk(
     c: usize,
 ) -> Extent
     requires { ⌜ (204 + 4096 * (c + 1) ≤ length (now out)) × (c < 4096) ⌝ }
-    ensures { λ r. ⌜ (r ≡ extentFrom (from .listing) n 0 0 (from .at) (rowsFrom content (now (input .entry)) (now (starts .entry)) (from .listing) (from .at))) × (now (out .exit) ≡ sets (now (out .entry)) (204 + 4096 * c) (newChunk (from .listing) n (prevOf c) (nextOf m c) (groupFrom content (now (input .entry)) (now (starts .entry)) (from .listing) (from .at) (r .count)))) ⌝ }
+    ensures { λ r. ⌜ (r ≡ extentFrom (from .listing) n 0 0 (from .at) (from .left) (rowsFrom content (now (input .entry)) (now (starts .entry)) (from .listing) (from .left) (from .at))) × (now (out .exit) ≡ sets (now (out .entry)) (204 + 4096 * c) (newChunk (from .listing) n (prevOf c) (nextOf m c) (groupFrom content (now (input .entry)) (now (starts .entry)) (from .listing) (from .left) (from .at) (r .count)))) ⌝ }
 {
     let at = 204 + 4096 * c;
     compose::write_chunk(
@@ -238,42 +251,52 @@ fn put_chunk(
     )
 }
 
-// Writes the chunks of a level, which are numbered from `end` on, and returns the number behind the last.
+// Writes the chunks of a level, whose first entry is at a cursor and which are numbered from `end` on; returns the number behind the last.
 fn put_level(
     out: &mut [u8],
     input: &[u8],
     starts: &[usize],
     content: u64,
+    from: Cursor,
     n: usize,
     m: u32,
-    listing: bool,
-    base: usize,
     end: usize,
 ) -> usize
-    requires { ⌜ LevelFits content (now input) (now starts) listing n base end (length (now out)) ⌝ }
-    ensures { λ r. ⌜ (r ≡ end + length (chunksFrom content (now (input .entry)) (take end (now (starts .entry))) listing n base)) × (now (out .exit) ≡ sets (now (out .entry)) (204 + 4096 * end) (flatten (chunksOf listing n m end (map (map (storedOf (now (input .entry)))) (chunksFrom content (now (input .entry)) (take end (now (starts .entry))) listing n base))))) ⌝ }
+    requires { ⌜ LevelFits content (now input) (now starts) (from .listing) n (from .left) (from .at) end (length (now out)) ⌝ }
+    ensures { λ r. ⌜ (r ≡ end + length (chunksFrom content (now (input .entry)) (take end (now (starts .entry))) (from .listing) n (from .left) (from .at))) × (now (out .exit) ≡ sets (now (out .entry)) (204 + 4096 * end) (flatten (chunksOf (from .listing) n m end (map (map (storedOf (now (input .entry)))) (chunksFrom content (now (input .entry)) (take end (now (starts .entry))) (from .listing) n (from .left) (from .at)))))) ⌝ }
 {
-    let mut c = Cursor { listing, at: base };
+    let listing = from.listing;
+    let mut c = from;
     let mut j = end;
     loop {
-        let Taken::Entry(_, _) = source::step(input, &starts[..end], content, c) else {
+        let Item::Good(_) = source::step(input, &starts[..end], content, c) else {
             return j;
         };
         let f = put_chunk(out, input, &starts[..end], content, c, n, m, j);
-        c = Cursor { listing, at: f.at };
+        c = Cursor {
+            listing,
+            at: f.at,
+            left: f.left,
+        };
         j += 1;
     }
 }
 
 // Writes the index levels over m listing chunks.
 fn put_index(out: &mut [u8], input: &[u8], starts: &[usize], content: u64, n: usize, m: u32)
-    requires { ⌜ (IndexFits content (now input) (now starts) n m (length (now out))) × (0 < m) ⌝ }
-    ensures { λ _. ⌜ now (out .exit) ≡ sets (now (out .entry)) (204 + 4096 * m) (flatten (indexOf content (now (input .entry)) n m)) ⌝ }
+    requires { ⌜ (IndexFits (now input) (now starts) (layoutOf n (given content (now input))) m (length (now out))) × (0 < m) ⌝ }
+    ensures { λ _. ⌜ now (out .exit) ≡ sets (now (out .entry)) (204 + 4096 * m) (flatten (indexOf n m (layoutOf n (given content (now (input .entry)))))) ⌝ }
 {
     let mut base: usize = 0;
     let mut end = m as usize;
     while 1 < end - base {
-        let next = put_level(out, input, starts, content, n, m, false, base, end);
+        let left = end - base;
+        let level = Cursor {
+            listing: false,
+            at: base,
+            left,
+        };
+        let next = put_level(out, input, starts, content, level, n, m, end);
         base = end;
         end = next;
     }
@@ -409,12 +432,17 @@ fn put_head(
     depth: usize,
     count: usize,
 )
-    requires { ⌜ Ready content (now entries) (now starts) n m depth count (length (now out)) ⌝ }
+    requires { ⌜ Ready (now entries) (now starts) (layoutOf n (given content (now entries))) m depth count (length (now out)) ⌝ }
     requires { ⌜ (n ≡ spacingOf density) × (content < 0x4000_0000_0000_0000) ⌝ }
     ensures { λ _. ⌜ now (out .exit) ≡ sets (now (out .entry)) 0 (headBytes density time language content (layoutOf n (given content (now (entries .entry))))) ⌝ }
 {
     put_headers(out, density, time, language, content, m, depth, count);
-    put_level(out, entries, starts, content, n, m as u32, true, 0, 0);
+    let first = Cursor {
+        listing: true,
+        at: 0,
+        left: entries.len(),
+    };
+    put_level(out, entries, starts, content, first, n, m as u32, 0);
     put_index(out, entries, starts, content, n, m as u32);
 }
 

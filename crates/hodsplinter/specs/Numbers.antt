@@ -6,7 +6,6 @@ use lib.ListN.{length, getD, set}
 use Rattle.fields.specs.Part.{partOf}
 use Rattle.header.specs.declared.Record.{Record}
 use Rattle.book.specs.declared.Refusal.{Refusal}
-use Rattle.book.specs.declared.Report.{Report}
 use Rattle.directory.specs.declared.Opened.{Opened}
 use Rattle.directory.specs.declared.Opened.the-variants.{Book}
 use Rattle.lookup.specs.declared.Answer.{Answer}
@@ -20,7 +19,7 @@ use Rattle.listing.specs.declared.Page.the-variants.{Entries, Short}
 use Rattle.head.specs.declared.Written.{Written}
 use Rattle.head.specs.declared.Written.the-variants.{Length}
 
--- ---- a record as eleven numbers, in the order of its fields
+-- ---- a record as numbers, in the order of its fields
 
 unfoldable pub recordIn : List ℕ → Record
 recordIn n =

@@ -1,4 +1,4 @@
-// The library for C: numbers and byte slices. A record is eleven numbers in the order of its fields; a refusal is its number plus 256 times its place.
+// The library for C: numbers and byte slices. A record is its numbers in the order of its fields; a refusal is its number plus 256 times its place.
 ghost use mathlib.Core.Path.{_≡_};
 ghost use lib.ListN.{length};
 ghost use Rattle.lookup.specs.Lookup.{lookedUp, trailAfter};
@@ -8,7 +8,6 @@ ghost use Rattle.hodsplinter.specs.Numbers.{recordIn, numbersOf, refusal
 ghost use Rattle.layout.specs.Layout.{layoutFor, headBytes};
 ghost use Rattle.head.specs.Head.{written, outputFor};
 use book::Refusal;
-use book::Report;
 use directory::Opened;
 use head::Written;
 use header::Record;
@@ -17,6 +16,9 @@ use listing::Page;
 use listing::Step;
 use lookup::Answer;
 
+// The numbers of a record; `HODS_RECORD` in include/hodsplinter.h is how many there are.
+type Numbers = [u64; 11];
+
 // A refusal as one number.
 fn code(r: Refusal) -> u64
     ensures { λ c. ⌜ c ≡ refusalCode r ⌝ }
@@ -24,8 +26,8 @@ fn code(r: Refusal) -> u64
     r.number as u64 + 256 * (r.chunk as u64)
 }
 
-// The record of eleven numbers.
-fn record_in(n: &[u64; 11]) -> Record
+// The record of these numbers.
+fn record_in(n: &Numbers) -> Record
     ensures { λ r. ⌜ r ≡ recordIn (now (n .entry)) ⌝ }
 {
     Record {
@@ -43,8 +45,8 @@ fn record_in(n: &[u64; 11]) -> Record
     }
 }
 
-// The eleven numbers of a record.
-fn record_numbers(r: Record) -> [u64; 11]
+// The numbers of a record.
+fn record_numbers(r: Record) -> Numbers
     ensures { λ n. ⌜ n ≡ numbersOf r ⌝ }
 {
     [
@@ -64,7 +66,7 @@ fn record_numbers(r: Record) -> [u64; 11]
 
 // Opens a book: 0 and its record, or the refusal with nothing changed.
 #[no_mangle]
-pub extern "C" fn hods_open(file: &[u8], record: &mut [u64; 11]) -> u64
+pub extern "C" fn hods_open(file: &[u8], record: &mut Numbers) -> u64
     ensures answer { λ r. ⌜ r ≡ openCode (opened (now (file .entry))) ⌝ }
     ensures numbers { λ _. ⌜ now («record» .exit) ≡ openRecord (opened (now (file .entry))) (now («record» .entry)) ⌝ }
 {
@@ -82,7 +84,7 @@ pub extern "C" fn hods_open(file: &[u8], record: &mut [u64; 11]) -> u64
 #[no_mangle]
 pub extern "C" fn hods_lookup(
     file: &[u8],
-    record: &[u64; 11],
+    record: &Numbers,
     name: &[u8],
     trail: &mut [u32],
     answer: &mut [u64; 6],
@@ -106,7 +108,7 @@ pub extern "C" fn hods_lookup(
 
 // The cursor at the start of a book's listing.
 #[no_mangle]
-pub extern "C" fn hods_start(record: &[u64; 11], cursor: &mut [u64; 2]) -> u64
+pub extern "C" fn hods_start(record: &Numbers, cursor: &mut [u64; 2]) -> u64
     ensures answer { λ r. ⌜ r ≡ 0 ⌝ }
     ensures numbers { λ _. ⌜ now (cursor .exit) ≡ cursorNumbers (startOf (recordIn (now («record» .entry)))) ⌝ }
 {
@@ -119,7 +121,7 @@ pub extern "C" fn hods_start(record: &[u64; 11], cursor: &mut [u64; 2]) -> u64
 #[no_mangle]
 pub extern "C" fn hods_step(
     file: &[u8],
-    record: &[u64; 11],
+    record: &Numbers,
     cursor: &mut [u64; 2],
     entry: &mut [u64; 5],
 ) -> u64
@@ -146,7 +148,7 @@ pub extern "C" fn hods_step(
 #[no_mangle]
 pub extern "C" fn hods_chunk(
     file: &[u8],
-    record: &[u64; 11],
+    record: &Numbers,
     chunk: u64,
     entries: &mut [u64],
     next: &mut [u64; 2],

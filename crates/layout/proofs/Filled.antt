@@ -3,23 +3,22 @@
 use mathlib.Core.Path.{_≡_, ap, _∙_}
 use mathlib.Core.Bool.{Bool, true, false}
 use mathlib.Core.List.{List, [], _∷_, flatten}
-use Prim.Native.Nat.{ℕ, _+_, _*_, _≤_}
+use Prim.Native.Nat.{ℕ, _+_, _*_, _≤_, _<_}
 use native.Mathlib.Omega.{arith}
 use lib.ListN.{length}
-use Rattle.chunk.specs.Chunk.{quickCount}
+use Rattle.chunk.specs.Chunk.{quickCount, spacingOf}
 use Rattle.source.specs.Stored.{Stored}
-use Rattle.source.specs.Input.{given}
-use Rattle.source.proofs.All.{All, none, more, all-weaken, all-append}
-use Rattle.source.proofs.Kept.{Kept, given-kept}
+use Rattle.source.proofs.All.{All, none, more, all-append}
 use Rattle.pack.specs.Groups.{fits}
 use Rattle.pack.specs.Levels.{entrySize}
 use Rattle.pack.proofs.Groups.{Fit, sizes}
 use Rattle.pack.proofs.Filling.{fits-small}
-use Rattle.pack.proofs.Fitting.{Short, level-fit, level-short, index-fit}
+use Rattle.pack.proofs.Fitting.{index-fit}
 use Rattle.compose.specs.NewChunk.{entriesEnd}
 use Rattle.compose.proofs.Composing.{run-length}
 use Rattle.compose.proofs.Whole.{length-chunk}
-use Rattle.layout.specs.Layout.{Layout, layoutOf, prevOf, nextOf, chunksOf, chunkList}
+use Rattle.layout.specs.Layout.{Layout, layoutOver, prevOf, nextOf, chunksOf, chunkList}
+use Rattle.layout.proofs.Cut.{Cut, cut-ordered, cut-some}
 use Rattle.layout.proofs.Sizes.{length-chunks, length-flat}
 
 module _ (k : Bool) (n : ℕ) where
@@ -37,24 +36,24 @@ module _ (k : Bool) (n : ℕ) where
 
 -- ---- the chunks of a new layout
 
-pub shorts : (content : ℕ) (s : List ℕ) → All Short (given content s)
-shorts content s = all-weaken (λ (e : Stored) (k : Kept content e). k .short) (given-kept content s)
+module _ (density content : ℕ) (es : List Stored) (gs : List (List Stored)) (c : Cut density content es gs) where
+  abbrev n : ℕ
+  n = spacingOf density
 
-module _ (n content : ℕ) (s : List ℕ) where
   abbrev l : Layout
-  l = layoutOf n (given content s)
+  l = layoutOver n gs
 
-  pub leaves-fit : All (Fit (entrySize true) (fits true n)) (l .leaves)
-  unfolding layoutOf
-  leaves-fit = level-fit n true (given content s) (shorts content s)
+  pub leaves-some : 0 < length (l .leaves)
+  unfolding layoutOver
+  leaves-some = cut-some density content es gs c
 
   pub nodes-fit : All (Fit (entrySize false) (fits false n)) (flatten (l .levels))
-  unfolding layoutOf
-  nodes-fit = index-fit n 5 0 (l .leaves) (level-short n true (given content s) (shorts content s))
+  unfolding layoutOver
+  nodes-fit = index-fit n 5 0 gs (cut-ordered density content es gs c .short)
 
-  pub list-whole : All (λ (c : List ℕ). length c ≡ 4096) (chunkList n l)
-  unfolding chunkList
+  pub list-whole : All (λ (x : List ℕ). length x ≡ 4096) (chunkList n l)
+  unfolding chunkList layoutOver
   list-whole =
-      let m = length (l .leaves) in
-      all-append (chunksOf true n m 0 (l .leaves)) (chunksOf false n m m (flatten (l .levels)))
-      (chunks-whole true n m 0 (l .leaves) leaves-fit) (chunks-whole false n m m (flatten (l .levels)) nodes-fit)
+      let m = length gs in
+      all-append (chunksOf true n m 0 gs) (chunksOf false n m m (flatten (l .levels)))
+      (chunks-whole true n m 0 gs (c .fit)) (chunks-whole false n m m (flatten (l .levels)) nodes-fit)

@@ -25,9 +25,13 @@ pub record Layout : Type 0 where
   pub leaves : List (List Stored)
   pub levels : List (List (List Stored))
 
--- W10, W11. Five index levels are looked for; where there are so many, the depth is above 5
-unfoldable pub layoutOf : ℕ → List Stored → Layout
-layoutOf n es = record { leaves = level n true es; levels = levelsAbove n 5 0 (level n true es) }
+-- over these listing chunks, wherever they are cut (W11). Five index levels are looked for; where there are so many, the depth is above 5
+unfoldable pub layoutOver : ℕ → List (List Stored) → Layout
+layoutOver n gs = record { leaves = gs; levels = levelsAbove n 5 0 gs }
+
+-- of these entries: each listing chunk takes as many as fit (W10)
+abbrev pub layoutOf : ℕ → List Stored → Layout
+layoutOf n es = layoutOver n (level n true es)
 
 abbrev pub chunkCount : Layout → ℕ
 chunkCount l = length (l .leaves) + length (flatten (l .levels))

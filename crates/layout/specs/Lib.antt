@@ -1,3 +1,2 @@
 pub mod Headers
 pub mod Layout
-pub mod RoundTrip

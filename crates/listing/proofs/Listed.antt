@@ -9,7 +9,7 @@ use Rattle.fields.proofs.Tests.{never}
 use Rattle.header.specs.declared.Record.{Record}
 use Rattle.tree.specs.Shape.{noChunk, nextOf}
 use Rattle.tree.specs.Chain.{chainFrom, chain, linked}
-use Rattle.tree.proofs.Linked.{onLink, linked-chunk, chain-linked, listed}
+use Rattle.tree.proofs.Linked.{onLink, linked-chunk, chain-linked, good-filled, listed}
 use Rattle.book.specs.Book.{directoryOf, shapeOf, bookFits}
 use Rattle.directory.specs.Opened.{opened}
 use Rattle.directory.specs.declared.Opened.the-variants.{Book}
@@ -49,5 +49,5 @@ listing-exact s book e =
       each = run-take s book to at-end (startOf book) rs r;
       ends = ap (λ (x : Cursor). x .chunk) (m .1);
       stays = λ n. rw (m .1, end-steps s book to at-end n .1) at-end;
-      complete = listed (directoryOf s book) (shapeOf book) (k .directory .chunks) (k .directory .chain-passes);
+      complete = listed (directoryOf s book) (shapeOf book) (good-filled (directoryOf s book) (shapeOf book) (k .directory .chunks)) (k .directory .chain-passes);
     }

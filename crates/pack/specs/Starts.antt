@@ -16,8 +16,8 @@ use Rattle.pack.specs.Levels.{firstName}
 use Rattle.pack.specs.Fill.{rowSize}
 
 -- the chunks of a level, from a cursor on
-unfoldable pub chunksFrom : ℕ → List ℕ → List ℕ → Bool → ℕ → ℕ → List (List Place)
-chunksFrom content s starts k n at = groups (rowSize k) (fits k n) (rowsFrom content s starts k at)
+unfoldable pub chunksFrom : ℕ → List ℕ → List ℕ → Bool → ℕ → ℕ → ℕ → List (List Place)
+chunksFrom content s starts k n left at = groups (rowSize k) (fits k n) (rowsFrom content s starts k left at)
 
 -- where the first entry of a chunk stands
 unfoldable pub firstAt : List Place → ℕ

@@ -5,15 +5,16 @@ ghost use Rattle.chunk.specs.Chunk.{quickCount};
 ghost use Rattle.source.specs.Source.{rowsFrom};
 ghost use Rattle.pack.specs.Groups.{fits as fitsIn};
 ghost use Rattle.pack.specs.Fill.{sizeOf, fitOf, extentFrom};
+use entries::Item;
 use entries::Place;
 use source::Cursor;
-use source::Taken;
 
-// The entries that a chunk takes: how many there are, the bytes that they take, and the cursor's place behind them.
+// The entries that a chunk takes: how many there are, the bytes that they take, and the cursor behind them: its place, and how many more may be taken.
 pub struct Extent {
     pub count: usize,
     pub bytes: usize,
     pub at: usize,
+    pub left: usize,
 }
 
 // The entry that a chunk takes next, with the bytes of its entries up to this one; or it is full: the next does not fit, or there is none.
@@ -69,13 +70,17 @@ pub fn next_fit(
     n: usize,
     f: Extent,
 ) -> Fit
-    ensures { λ r. ⌜ r ≡ fitOf listing n (f .count) (f .bytes) (rowsFrom content (now (input .entry)) (now (starts .entry)) listing (f .at)) ⌝ }
+    ensures { λ r. ⌜ r ≡ fitOf listing n (f .count) (f .bytes) (rowsFrom content (now (input .entry)) (now (starts .entry)) listing (f .left) (f .at)) ⌝ }
 {
     if 4096 < f.bytes {
         return Fit::Full;
     }
-    let c = Cursor { listing, at: f.at };
-    let Taken::Entry(e, _) = source::step(input, starts, content, c) else {
+    let c = Cursor {
+        listing,
+        at: f.at,
+        left: f.left,
+    };
+    let Item::Good(e) = source::step(input, starts, content, c) else {
         return Fit::Full;
     };
     let bytes = f.bytes + entry_size(listing, e);
@@ -87,12 +92,13 @@ pub fn next_fit(
 
 // The entries from a cursor on that go into one chunk: as many as fit.
 pub fn fill(input: &[u8], starts: &[usize], content: u64, from: Cursor, n: usize) -> Extent
-    ensures { λ r. ⌜ r ≡ extentFrom (from .listing) n 0 0 (from .at) (rowsFrom content (now (input .entry)) (now (starts .entry)) (from .listing) (from .at)) ⌝ }
+    ensures { λ r. ⌜ r ≡ extentFrom (from .listing) n 0 0 (from .at) (from .left) (rowsFrom content (now (input .entry)) (now (starts .entry)) (from .listing) (from .left) (from .at)) ⌝ }
 {
     let mut f = Extent {
         count: 0,
         bytes: 0,
         at: from.at,
+        left: from.left,
     };
     loop {
         let Fit::Entry(e, bytes) = next_fit(input, starts, content, from.listing, n, f) else {
@@ -102,6 +108,7 @@ pub fn fill(input: &[u8], starts: &[usize], content: u64, from: Cursor, n: usize
             count: f.count + 1,
             bytes,
             at: e.next,
+            left: f.left - 1,
         };
     }
 }

@@ -1,9 +1,9 @@
 -- What every entry keeps that the writer is given (FORMAT E3 to E6).
 -- Assumes nothing.
-use mathlib.Core.Path.{_≡_, sym, subst}
-use mathlib.Core.List.{List, map}
+use mathlib.Core.Path.{_≡_}
+use mathlib.Core.List.{List}
 use mathlib.Core.Bool.{true, _||_}
-use Prim.Native.Nat.{ℕ, zero, suc, _+_, _^_, _≤_, _<_}
+use Prim.Native.Nat.{ℕ, _+_, _^_, _≤_, _<_}
 use native.Mathlib.Omega.{arith}
 use lib.ListN.{length}
 use lib.Dec.{ltb, leb}
@@ -12,10 +12,9 @@ use Rattle.entries.specs.Entry.{listingAt}
 use Rattle.entries.specs.declared.Place.{Place}
 use Rattle.entries.specs.declared.Item.the-variants.{Good}
 use Rattle.source.specs.Stored.{Stored, storedOf}
-use Rattle.source.specs.Source.{run}
 use Rattle.source.specs.Input.{given}
-use Rattle.source.proofs.All.{All, none, more}
-use Rattle.source.proofs.Rows.{given-row, onItem, run-none, run-one}
+use Rattle.source.proofs.All.{All, all-map}
+use Rattle.source.proofs.Rows.{given-row, run-all}
 
 pub record Kept (content : ℕ) (e : Stored) : Type 0 where
   pub some : 0 < length (e .name)
@@ -41,15 +40,6 @@ module _ (content : ℕ) (s : List ℕ) where
         childless = g .childless;
       }
 
-  kept-run : (f at : ℕ) → All (Kept content) (map (storedOf s) (run (listingAt content s) f at))
-  unfolding run
-  kept-run zero at = none
-  kept-run (suc f) at =
-      onItem (listingAt content s at)
-      (λ q. subst (λ (l : List Place). All (Kept content) (map (storedOf s) l)) (sym (run-none (listingAt content s) (suc f) at q)) none)
-      (λ e q.
-      subst (λ (l : List Place). All (Kept content) (map (storedOf s) l)) (sym (run-one (listingAt content s) f at e q)) (more (kept-one at e q) (kept-run f (e .next))))
-
   pub given-kept : All (Kept content) (given content s)
   unfolding given
-  given-kept = kept-run (length s) 0
+  given-kept = all-map (storedOf s) (run-all (listingAt content s) (λ e. Kept content (storedOf s e)) kept-one (length s) 0)

@@ -11,8 +11,6 @@ use Rattle.entries.specs.declared.Place.{Place}
 use Rattle.entries.specs.declared.Item.{Item}
 use Rattle.entries.specs.declared.Item.the-variants.{Good}
 use Rattle.chunk.specs.Chunk.{withItem}
-use Rattle.source.specs.declared.Taken.{Taken}
-use Rattle.source.specs.declared.Taken.the-variants.{Entry, End}
 
 -- the entry for chunk c, whose first name has its entry in the input s at place c of `starts`
 unfoldable pub childAt : List ℕ → List ℕ → ℕ → Item
@@ -27,21 +25,21 @@ unfoldable pub itemFrom : ℕ → List ℕ → List ℕ → Bool → ℕ → Ite
 itemFrom content s starts true at = listingAt content s at
 itemFrom content s starts false at = childAt s starts at
 
--- what a step hands out of an entry
-abbrev pub takenOf : Bool → Item → Taken
-takenOf k Item.Bad = End
-takenOf k (Good e) = Entry e (record { listing = k; at = e .next })
+-- what a step hands out of it, where `left` more may be taken
+unfoldable pub takenOf : ℕ → Item → Item
+takenOf zero i = Item.Bad
+takenOf (suc left) i = i
 
--- the entries from a cursor on, each directly behind the one before, up to the first place where none stands; f at most
+-- the entries from a cursor on, up to the first place where none stands; `left` at most
 unfoldable pub run : (ℕ → Item) → ℕ → ℕ → List Place
 run item zero at = []
-run item (suc f) at = withItem (item at) [] (λ e. e ∷ run item f (e .next))
+run item (suc left) at = withItem (item at) [] (λ e. e ∷ run item left (e .next))
 
 -- where they end
 unfoldable pub endOf : ℕ → List Place → ℕ
 endOf at [] = at
 endOf at (e ∷ es) = endOf (e .next) es
 
--- all entries from a cursor on: there are no more of them than bytes, or chunks
-unfoldable pub rowsFrom : ℕ → List ℕ → List ℕ → Bool → ℕ → List Place
-rowsFrom content s starts k at = run (itemFrom content s starts k) (length s + length starts) at
+-- those of a level
+abbrev pub rowsFrom : ℕ → List ℕ → List ℕ → Bool → ℕ → ℕ → List Place
+rowsFrom content s starts k left at = run (itemFrom content s starts k) left at

@@ -5,17 +5,12 @@ use encint::Number;
 use entries::Item;
 use entries::Place;
 
-// How far the entries of a level are taken. A listing level takes them from the input: `at` is the place of the next one. An index level
-// has one for each chunk so far: `at` is the number of the next chunk.
+// How far the entries of a level are taken, and how many more may be. A listing level takes them from the input: `at` is the place of the next one.
+// An index level has one for each chunk so far: `at` is the number of the next chunk.
 pub struct Cursor {
     pub listing: bool,
     pub at: usize,
-}
-
-// An entry, with the cursor moved on behind it; or the end, where no good entry stands.
-pub enum Taken {
-    Entry(Place, Cursor),
-    End,
+    pub left: usize,
 }
 
 // The index entry for chunk c. `starts` has, for each chunk so far, where the entry of its first name stands in the input.
@@ -41,31 +36,15 @@ fn child_at(input: &[u8], starts: &[usize], c: usize) -> Item
     })
 }
 
-// The entry at a cursor.
-pub fn step(input: &[u8], starts: &[usize], content: u64, from: Cursor) -> Taken
-    ensures { λ r. ⌜ r ≡ takenOf (from .listing) (itemFrom content (now (input .entry)) (now (starts .entry)) (from .listing) (from .at)) ⌝ }
+// The entry at a cursor. It is bad where no more may be taken, or no good entry stands there.
+pub fn step(input: &[u8], starts: &[usize], content: u64, from: Cursor) -> Item
+    ensures { λ r. ⌜ r ≡ takenOf (from .left) (itemFrom content (now (input .entry)) (now (starts .entry)) (from .listing) (from .at)) ⌝ }
 {
-    let at = from.at;
-    if from.listing {
-        let Item::Good(e) = entries::listing_at(input, at, content) else {
-            return Taken::End;
-        };
-        return Taken::Entry(
-            e,
-            Cursor {
-                listing: true,
-                at: e.next,
-            },
-        );
+    if from.left == 0 {
+        return Item::Bad;
     }
-    let Item::Good(e) = child_at(input, starts, at) else {
-        return Taken::End;
-    };
-    Taken::Entry(
-        e,
-        Cursor {
-            listing: false,
-            at: e.next,
-        },
-    )
+    if from.listing {
+        return entries::listing_at(input, from.at, content);
+    }
+    child_at(input, starts, from.at)
 }

@@ -11,12 +11,12 @@ use Rattle.fields.proofs.Tests.{and-both, eqb-flip}
 use Rattle.names.specs.Names.{below}
 use Rattle.chunk.specs.Chunk.{Parsed}
 use Rattle.tree.specs.Lists.{member, everyBelow}
-use Rattle.tree.specs.Shape.{Shape, noChunk, isListing, previousOf, nextOf, firstName, lastName, listingChunk, GoodChunks}
+use Rattle.tree.specs.Shape.{Shape, noChunk, isListing, previousOf, nextOf, firstName, lastName, listingChunk}
 use Rattle.tree.specs.Chain.{chainFrom, chain, linked, chainOk}
 use Rattle.tree.specs.Walk.{listings, chainRun, chainRunOk}
 use Rattle.tree.proofs.Lists.{onTest, same-test}
 use Rattle.tree.proofs.Counting.{count-bound, counted}
-use Rattle.tree.proofs.Linked.{chain-listing, chain-distinct, linked-fuel}
+use Rattle.tree.proofs.Linked.{chain-listing, Filled, chain-distinct, linked-fuel}
 
 module _ (D : ℕ → Parsed) (H : Shape) where
   -- to run over k chunks is to be linked over k chunks, and to have k
@@ -35,12 +35,12 @@ module _ (D : ℕ → Parsed) (H : Shape) where
       (λ v. rw (u, v)))
       (λ u. rw u)
 
-  module _ (good : GoodChunks D H) where
+  module _ (filled : Filled D H) where
     -- a linked chain has all the listing chunks exactly if it has as many
     all-listed : (n : ℕ) → linked D H n noChunk (H .first) ≡ true
         → everyBelow (H .count) (λ c. not (isListing (D c)) || member c (chainFrom D n (H .first))) ≡ eqb (length (chainFrom D n (H .first))) (listings D H)
     all-listed n l =
-        counted (H .count) (chainFrom D n (H .first)) (chain-distinct D H good n noChunk (H .first) l) (λ c. isListing (D c))
+        counted (H .count) (chainFrom D n (H .first)) (chain-distinct D H filled n noChunk (H .first) l) (λ c. isListing (D c))
         (chain-listing D H n noChunk (H .first) l)
 
     pub chain-run : chainRunOk D H ≡ chainOk D H

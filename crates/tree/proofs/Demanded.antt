@@ -20,7 +20,7 @@ use Rattle.tree.specs.Descent.{found, absent, refused, outcomeFrom, trai
 use Rattle.tree.specs.Demand.{GoodDirectory, Holds, Demand3}
 use Rattle.tree.proofs.Rising.{Before, rising-each}
 use Rattle.tree.proofs.Chunks.{listing-chunk, first-entry}
-use Rattle.tree.proofs.Linked.{linked-chunk, chain-first, chain-linked, listed}
+use Rattle.tree.proofs.Linked.{linked-chunk, chain-first, chain-linked, good-filled, listed}
 use Rattle.tree.proofs.Shaped.{under, first-under}
 use Rattle.tree.proofs.Descended.{Answered, answered, reached, trail-deep, trail-high}
 
@@ -47,7 +47,7 @@ module _ (D : ℕ → Parsed) (H : Shape) (a : GoodDirectory D H) (l : ℕ) (g :
   unfolding chainEntries
   under-rising =
       subst (λ cs. Each Before (entriesOf D cs)) (sym (g .leaves-are))
-      (rising-each [] (chainEntries D H) (listed D H (a .chunks) (a .chain-passes) .rises))
+      (rising-each [] (chainEntries D H) (listed D H (good-filled D H (a .chunks)) (a .chain-passes) .rises))
 
   -- the top has the book's first name
   top-name : firstName (D (top H)) ≡ firstName (D (H .first))
@@ -74,7 +74,7 @@ module _ (D : ℕ → Parsed) (H : Shape) (a : GoodDirectory D H) (l : ℕ) (g :
 
     held : (c : ℕ) (e : Entry) → Holds D H name c e → outcome D H name ≡ found c e
     held c e h =
-        let m = listed D H (a .chunks) (a .chain-passes) .chunks c .1 (h .inside, h .kind) in
+        let m = listed D H (good-filled D H (a .chunks)) (a .chain-passes) .chunks c .1 (h .inside, h .kind) in
         outcome-is ∙ reached D H (a .chunks) name l (top H) (g .shape) under-rising c e (rw (g .leaves-are) m) (h .entry) (h .equals)
 
     settled : Answered D H (a .chunks) name (outcome D H name)

@@ -1,4 +1,5 @@
 -- A chain that is linked: its chunks are listing chunks, none stands on it twice, the names of its entries rise; how many chunks it may have is no limit.
+-- Of the chunks it asks only that listing chunks are filled.
 -- Assumes nothing.
 use mathlib.Core.Path.{_≡_, refl, sym, _∙_}
 use mathlib.Core.Logic.{inl, inr}
@@ -18,10 +19,10 @@ use Rattle.tree.specs.Lists.{In, Each, Distinct, member, everyBelow}
 use Rattle.tree.specs.Shape.{Shape, noChunk, isListing, previousOf, nextOf, firstName, lastName, listingChunk, GoodChunks}
 use Rattle.tree.specs.Chain.{chainFrom, chain, entriesOf, chainEntries, linked, chainOk}
 use Rattle.tree.specs.Demand.{Listed}
-use Rattle.tree.proofs.Lists.{onTest, implied, in-flat, member-in, every-below, each-right, each-apart}
+use Rattle.tree.proofs.Lists.{first-of, onTest, implied, in-flat, member-in, every-below, each-right, each-apart}
 use Rattle.tree.proofs.Counting.{distinct-bound}
 use Rattle.tree.proofs.Rising.{Before, rising-each, rising-behind, rising-append}
-use Rattle.tree.proofs.Chunks.{listing-chunk, first-entry}
+use Rattle.tree.proofs.Chunks.{listing-chunk}
 
 module _ (D : ℕ → Parsed) (H : Shape) where
   -- ---- the first chunk: it is a listing chunk, it names the one before as previous, and it has no next or the chain goes on
@@ -94,38 +95,48 @@ module _ (D : ℕ → Parsed) (H : Shape) where
 
   -- ---- names
 
-  module _ (good : GoodChunks D H) where
-    -- the first name of some chunks is that of the first of them
-    first-name : (c : ℕ) (es : List Entry) → c < H .count → nth 0 (entriesIn (D c) ++ es) ≡ nth 0 (entriesIn (D c))
-    unfolding nth
-    first-name c es l = let f = first-entry D H good c l in rw (f .2)
+  -- what is asked of listing chunks: each has an entry, and its names rise
+  abbrev pub Filled : Type 0
+  Filled = (c : ℕ) → c < H .count → isListing (D c) ≡ true → (0 < length (entriesIn (D c))) × (rising [] (entriesIn (D c)) ≡ true)
 
-    chunk-then : (c : ℕ) (es : List Entry) → c < H .count → rising (lastName (D c)) es ≡ true → rising [] (entriesIn (D c) ++ es) ≡ true
-    chunk-then c es l h =
-        let f = first-entry D H good c l in
-        rw (f .2) (rising-append [] (f .0) (f .1) es (rw (f .2) at (good .rises c l)) (rw (f .2) at h))
+  pub good-filled : GoodChunks D H → Filled
+  good-filled good c l k = (good .some c l, good .rises c l)
+
+  module _ (filled : Filled) where
+    first-entry : (c : ℕ) → (c < H .count) × (isListing (D c) ≡ true) → (e : Entry) × (es : List Entry) × (entriesIn (D c) ≡ e ∷ es)
+    first-entry c k = first-of (entriesIn (D c)) (filled c (k .0) (k .1) .0)
+
+    -- the first name of some chunks is that of the first of them
+    first-name : (c : ℕ) (es : List Entry) → (c < H .count) × (isListing (D c) ≡ true) → nth 0 (entriesIn (D c) ++ es) ≡ nth 0 (entriesIn (D c))
+    unfolding nth
+    first-name c es k = let f = first-entry c k in rw (f .2)
+
+    chunk-then : (c : ℕ) (es : List Entry) → (c < H .count) × (isListing (D c) ≡ true) → rising (lastName (D c)) es ≡ true → rising [] (entriesIn (D c) ++ es) ≡ true
+    chunk-then c es k h =
+        let f = first-entry c k in
+        rw (f .2) (rising-append [] (f .0) (f .1) es (rw (f .2) at (filled c (k .0) (k .1) .1)) (rw (f .2) at h))
 
     pub chain-rising : (n p c : ℕ) → linked D H n p c ≡ true → rising [] (entriesOf D (chainFrom D n c)) ≡ true
     unfolding chainFrom flatMap rising
     chain-rising zero p c h = refl
     chain-rising (suc n) p c h =
-        let l = listing-chunk D H c (linked-chunk (suc n) p c h) .0 in
+        let l = listing-chunk D H c (linked-chunk (suc n) p c h) in
         onLink n p c h
         (λ e. rw e (chunk-then c [] l refl))
         (λ e b k.
         let x = nextOf (D c) in
         let f = chain-first n c x k in
-        let lx = listing-chunk D H x (linked-chunk n c x k) .0 in
+        let lx = listing-chunk D H x (linked-chunk n c x k) in
         let es = entriesOf D (chainFrom D n x) in
         let q : nth 0 es ≡ nth 0 (entriesIn (D x)) = rw (f .1) (first-name x (entriesOf D (f .0)) lx) in
         rw e (chunk-then c es l (rising-behind (lastName (D c)) [] es (chain-rising n c x k) (rw q b))))
 
     -- a chunk that stood in the chain twice would have its first name below itself
-    rising-distinct : (cs : List ℕ) → ((c : ℕ) → In c cs → c < H .count) → Each Before (entriesOf D cs) → Distinct cs
+    rising-distinct : (cs : List ℕ) → ((c : ℕ) → In c cs → (c < H .count) × (isListing (D c) ≡ true)) → Each Before (entriesOf D cs) → Distinct cs
     unfolding flatMap
     rising-distinct [] b r = tt
     rising-distinct (c ∷ cs) b r =
-        let f = first-entry D H good c (b c (inl refl)) in
+        let f = first-entry c (b c (inl refl)) in
         let here : In (f .0) (entriesIn (D c)) = rw (f .2) (inl refl) in
         let es = entriesOf D cs in (
           (λ x m e.
@@ -137,7 +148,7 @@ module _ (D : ℕ → Parsed) (H : Shape) where
     pub chain-distinct : (n p c : ℕ) → linked D H n p c ≡ true → Distinct (chainFrom D n c)
     chain-distinct n p c h =
         let es = entriesOf D (chainFrom D n c) in
-        rising-distinct (chainFrom D n c) (λ x m. chain-listing n p c h x m .0) (rising-each [] es (chain-rising n p c h))
+        rising-distinct (chainFrom D n c) (chain-listing n p c h) (rising-each [] es (chain-rising n p c h))
 
     -- a chain that is linked over any number of chunks is linked over as many as the directory has
     pub linked-count : (n p c : ℕ) → linked D H n p c ≡ true → (linked D H (H .count) p c ≡ true) × (chainFrom D (H .count) c ≡ chainFrom D n c)

@@ -22,7 +22,7 @@ use Rattle.tree.specs.Walk.{indexes, chainRunOk, Progress, stopped, goin
 use Rattle.tree.proofs.Lists.{onTest}
 use Rattle.tree.proofs.Counting.{counted}
 use Rattle.tree.proofs.Chunks.{listing-chunk}
-use Rattle.tree.proofs.Linked.{linked-chunk, onLink, chain-distinct, chain-linked}
+use Rattle.tree.proofs.Linked.{linked-chunk, onLink, good-filled, chain-distinct, chain-linked}
 use Rattle.tree.proofs.ChainRun.{chain-run}
 use Rattle.tree.proofs.Shaped.{childOk, leaf-listing}
 use Rattle.tree.proofs.Once.{index-kind, index-once}
@@ -176,7 +176,7 @@ module _ (D : ℕ → Parsed) (H : Shape) where
       unfolding chain
       on-chain h s t =
           let q : ls h ≡ chainFrom D (H .count) (H .first) = same-true (ls h) (chain D H) t in
-          let d : Distinct (is h) = index-once D H good h (top H) s (rw q (chain-distinct D H good (H .count) noChunk (H .first) l)) in
+          let d : Distinct (is h) = index-once D H good h (top H) s (rw q (chain-distinct D H (good-filled D H good) (H .count) noChunk (H .first) l)) in
           let f : follow D (ls h) (H .first) ≡ some noChunk = rw q (follow-chain (H .count) noChunk (H .first) l) in
           rw f (spend-all (is h) (indexes D H) ∙ sym (counted (H .count) (is h) d (λ c. isIndex (D c)) (index-kind D H good h (top H) s)))
 
@@ -217,4 +217,4 @@ tree-walk D H good small passes = walk-level D H small good (chain-linked D H pa
 pub checks-same : {A : Type 0} (D : ℕ → Parsed) (H : Shape) → GoodChunks D H → H .count ≤ noChunk → (accepted no-tree no-chain : A)
     → cond (chainRunOk D H) (cond (treeWalkOk D H) accepted no-tree) no-chain ≡ cond (chainOk D H) (cond (treeOk D H) accepted no-tree) no-chain
 checks-same D H good small accepted no-tree no-chain =
-    rw (chain-run D H good) (onTest (chainOk D H) (λ t. rw (t, tree-walk D H good small t)) (λ t. rw t))
+    rw (chain-run D H (good-filled D H good)) (onTest (chainOk D H) (λ t. rw (t, tree-walk D H good small t)) (λ t. rw t))

@@ -41,7 +41,7 @@ fn code(refusal: Refusal) -> u64 {
     u64::from(refusal.number) + 256 * u64::from(refusal.place)
 }
 
-fn record_numbers(record: &Record) -> [u64; 11] {
+fn record_numbers(record: &Record) -> [u64; library::RECORD] {
     [
         record.version,
         record.time,
@@ -149,7 +149,7 @@ impl Differ {
     }
 
     fn open(&mut self, file: &[u8]) -> Both {
-        let mut record = Lent::new("record", 11);
+        let mut record = Lent::new("record", library::RECORD);
         let (answer, number) = match open(file) {
             Ok(opened) => {
                 record.expect(&record_numbers(&opened));

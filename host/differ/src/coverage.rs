@@ -1,5 +1,6 @@
 //! What came up in a run, counted, and what has to come up in a complete one.
 
+use crate::library;
 use second::generate;
 use std::collections::BTreeMap;
 
@@ -29,7 +30,7 @@ const PROGRAM: &[&str] = &[
 const ASKING: &[&str] = &["answered", "17"];
 
 /// The numbers of a record that no book gave, as they are lent.
-pub const RECORD: [&str; 11] = [
+pub const RECORD: [&str; library::RECORD] = [
     "version of a made-up record",
     "time of a made-up record",
     "language of a made-up record",

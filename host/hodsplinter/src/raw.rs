@@ -5,6 +5,9 @@
 //! does not overlap what is read. Rust's references are such slices, the empty one too, and a `&mut` overlaps no other reference. In return the
 //! library is proved to touch nothing else, to keep no pointer and to end.
 
+/// How many numbers a record has: `HODS_RECORD` of the header.
+pub const RECORD: usize = 11;
+
 extern "C" {
     fn hods_open(file: *const u8, len: usize, record: *mut u64) -> u64;
     fn hods_lookup(
@@ -51,13 +54,13 @@ extern "C" {
 // SAFETY, of every function below: each pointer comes from a slice or array of the length that is passed or that the header fixes, and what is written is
 // borrowed apart from what is read.
 
-pub fn open(file: &[u8], record: &mut [u64; 11]) -> u64 {
+pub fn open(file: &[u8], record: &mut [u64; RECORD]) -> u64 {
     unsafe { hods_open(file.as_ptr(), file.len(), record.as_mut_ptr()) }
 }
 
 pub fn lookup(
     file: &[u8],
-    record: &[u64; 11],
+    record: &[u64; RECORD],
     name: &[u8],
     trail: &mut [u32],
     answer: &mut [u64; 6],
@@ -76,11 +79,16 @@ pub fn lookup(
     }
 }
 
-pub fn start(record: &[u64; 11], cursor: &mut [u64; 2]) -> u64 {
+pub fn start(record: &[u64; RECORD], cursor: &mut [u64; 2]) -> u64 {
     unsafe { hods_start(record.as_ptr(), cursor.as_mut_ptr()) }
 }
 
-pub fn step(file: &[u8], record: &[u64; 11], cursor: &mut [u64; 2], entry: &mut [u64; 5]) -> u64 {
+pub fn step(
+    file: &[u8],
+    record: &[u64; RECORD],
+    cursor: &mut [u64; 2],
+    entry: &mut [u64; 5],
+) -> u64 {
     unsafe {
         hods_step(
             file.as_ptr(),
@@ -94,7 +102,7 @@ pub fn step(file: &[u8], record: &[u64; 11], cursor: &mut [u64; 2], entry: &mut 
 
 pub fn chunk(
     file: &[u8],
-    record: &[u64; 11],
+    record: &[u64; RECORD],
     chunk: u64,
     entries: &mut [u64],
     next: &mut [u64; 2],

@@ -30,7 +30,7 @@ pub struct Record {
 }
 
 impl Record {
-    /// The record of the library's eleven numbers. All but the two places were read from fields of 32 bits.
+    /// The record of the library's numbers. All but the two places were read from fields of 32 bits.
     pub(crate) fn of(numbers: &[u64; RECORD]) -> Record {
         let n = |i: usize| numbers[i] as u32;
         Record {
@@ -48,7 +48,7 @@ impl Record {
         }
     }
 
-    /// The eleven numbers again.
+    /// The numbers again.
     pub(crate) fn numbers(&self) -> [u64; RECORD] {
         [
             self.version.into(),

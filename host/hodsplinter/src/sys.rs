@@ -1,10 +1,8 @@
 //! The C functions with their answers: done, or 255, or the refusal.
 
 use crate::raw;
+pub use crate::raw::RECORD;
 use crate::refusal::Refusal;
-
-/// How many numbers a record has.
-pub const RECORD: usize = 11;
 
 /// How many numbers an entry has: the name's place and length, section, offset, length.
 pub const ENTRY: usize = 5;

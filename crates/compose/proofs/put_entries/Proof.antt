@@ -1,7 +1,6 @@
 -- `compose::put_entries` meets its contract. The loop's invariant: what is taken is written, and with what is yet to be taken is the whole.
 -- Assumes nothing.
 use mathlib.Core.Path.{_≡_, refl, sym, _∙_}
-use Prim.Native.Nat.{_+_, _-_}
 use native.Mathlib.Omega.{arith}
 use lib.ListN.{length}
 use denote.Ref.{now}
@@ -13,28 +12,28 @@ use Rattle.compose.proofs.put_entries.Tie as tie
 
 abbrev Inv-loop : tie.InvT-loop
 Inv-loop out₀ input starts content from n first f₀ out f =
-    (length out ≡ length out₀) × Putting content input starts (from .listing) (from .at) n out f
+    (length out ≡ length out₀) × Putting content input starts (from .listing) (from .left) (from .at) n out f
 
 abbrev μ-loop : tie.MeasureT-loop
-μ-loop out₀ input starts content from n first f₀ out f = length input + length starts - f .at
+μ-loop out₀ input starts content from n first f₀ out f = f .left
 
 whole-size : (c : tie.At-loop Inv-loop μ-loop) → length (c .loop .out) ≡ 4096
 whole-size c = c .loop .inv .0 ∙ c .before .before .before .before .before .pre .0
 
 -- the entry that is next
 next : (c : tie.After-e Inv-loop μ-loop) → let l = c .before .before .before in let a = l .before .before .before .before .before .args in
-    Fitted (a .content) (now (a .input)) (now (a .starts)) (a .from .listing) (a .n) (l .loop .f .count) (l .loop .f .bytes) (l .loop .f .at) (c .e .given .0 .0) (c .e .given .0 .1 .0)
-next c = fitted _ _ _ _ _ _ _ _ _ _ (sym (c .before .before .next-fit .ensures) ∙ c .e .given .1)
+    Fitted (a .content) (now (a .input)) (now (a .starts)) (a .from .listing) (a .n) (l .loop .f .count) (l .loop .f .bytes) (l .loop .f .left) (l .loop .f .at) (c .e .given .0 .0) (c .e .given .0 .1 .0)
+next c = fitted _ _ _ _ _ _ _ _ _ _ _ (sym (c .before .before .next-fit .ensures) ∙ c .e .given .1)
 
 turn : (c : tie.After-e Inv-loop μ-loop) → let l = c .before .before .before in let a = l .before .before .before .before .before .args in
-    Turn (a .content) (now (a .input)) (now (a .starts)) (a .from .listing) (a .from .at) (a .n) (l .loop .out) (l .loop .f) (l .loop .inv .1) (c .e .given .0 .0) (c .e .given .0 .1 .0) (next c)
-turn c = putting-turn _ _ _ _ _ _ _ _ _ _ _ _
+    Turn (a .content) (now (a .input)) (now (a .starts)) (a .from .listing) (a .from .left) (a .from .at) (a .n) (l .loop .out) (l .loop .f) (l .loop .inv .1) (c .e .given .0 .0) (c .e .given .0 .1 .0) (next c)
+turn c = putting-turn _ _ _ _ _ _ _ _ _ _ _ _ _
 
 head-requires : tie.Need-head-requires Inv-loop μ-loop
 head-requires c κs = search needs
 
 loop-holds : tie.Need-loop-holds Inv-loop μ-loop
-loop-holds c = let p = c .before .before .before .before .pre in (refl, putting-start _ _ _ _ _ _ _ (p .0) (p .1))
+loop-holds c = let p = c .before .before .before .before .pre in (refl, putting-start _ _ _ _ _ _ _ _ (p .0) (p .1))
 
 next-fit-requires : tie.Need-next-fit-requires Inv-loop μ-loop
 next-fit-requires c κs = search needs
@@ -51,7 +50,7 @@ same-length c = c .before .before .before .loop .inv .0
 returns : tie.Need-returns Inv-loop μ-loop
 returns c =
     let t = c .before .before in
-    putting-end _ _ _ _ _ _ _ _ (t .before .loop .inv .1) (sym (t .next-fit .ensures) ∙ c .enum-told .given .1)
+    putting-end _ _ _ _ _ _ _ _ _ (t .before .loop .inv .1) (sym (t .next-fit .ensures) ∙ c .enum-told .given .1)
 
 add-put-entry : tie.Need-add-put-entry Inv-loop μ-loop
 add-put-entry c = let e = c .before .before .before in omega (arith, turn e .fits, e .before .before .before .before .head .ensures)
@@ -65,16 +64,19 @@ mark-requires c κs = let e = c .before .before .before .before .before .before 
 add-t15 : tie.Need-add-t15 Inv-loop μ-loop
 add-t15 c = let e = c .before .before .before .before .before .before .before .before .before .before .before in omega (arith, e .before .before .before .loop .inv .1 .few, turn e .near)
 
+sub-t18 : tie.Need-sub-t18 Inv-loop μ-loop
+sub-t18 c = let t = next (c .before .before .before .before .before .before .before .before .before .before .before .before) in omega (arith, t .some)
+
 loop-less : tie.Need-loop-less Inv-loop μ-loop
-loop-less c = let t = next (c .before .before .before .before .before .before .before .before .before .before .before) in omega (arith, t .moves, t .ends)
+loop-less c = let t = next (c .before .before .before .before .before .before .before .before .before .before .before .before) in omega (arith, t .some)
 
 loop-again : tie.Need-loop-again Inv-loop μ-loop
 loop-again c =
-    let e = c .before .before .before .before .before .before .before .before .before .before .before in
+    let e = c .before .before .before .before .before .before .before .before .before .before .before .before in
     let l = e .before .before .before in
-    let p = c .before .before .before .before .before .before .before .put-entry in
-    let m = c .before .before .before .mark in
-    (m .kept .0 ∙ p .kept .0 ∙ l .loop .inv .0, putting-more _ _ _ _ _ _ _ _ (l .loop .inv .1) _ _ (next e) _ _ _ (l .before .head .ensures) (p .ensures) (m .ensures))
+    let p = c .before .before .before .before .before .before .before .before .put-entry in
+    let m = c .before .before .before .before .mark in
+    (m .kept .0 ∙ p .kept .0 ∙ l .loop .inv .0, putting-more _ _ _ _ _ _ _ _ _ (l .loop .inv .1) _ _ (next e) _ _ _ (l .before .head .ensures) (p .ensures) (m .ensures))
 
 pub put-entries-spec : {M : Type 1} → statement M
 put-entries-spec =
@@ -93,5 +95,6 @@ put-entries-spec =
     put-entry-requires
     mark-requires
     add-t15
+    sub-t18
     loop-less
     loop-again)

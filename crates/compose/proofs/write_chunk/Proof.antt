@@ -15,8 +15,8 @@ use Rattle.compose.proofs.write_chunk.Tie as tie
 
 -- what the chunk takes
 told : (c : tie.After-put-entries) → let a = c .before .before .before .before .before .before .before .before .before .before .args in
-    Told (a .content) (now (a .input)) (now (a .starts)) (a .from .listing) (a .from .at) (a .n) (c .put-entries .result) (c .put-entries .ensures .0)
-told c = extent-told _ _ _ _ _ _ _ _
+    Told (a .content) (now (a .input)) (now (a .starts)) (a .from .listing) (a .from .left) (a .from .at) (a .n) (c .put-entries .result) (c .put-entries .ensures .0)
+told c = extent-told _ _ _ _ _ _ _ _ _
 
 -- the choice by the lent part's size
 other-size : (out x : List ℕ) → (length out ≡ 4096 → ⊥) → out ≡ cond (eqb (length out) 4096) x out
@@ -53,7 +53,7 @@ returns-2 c =
     let p = c .before .before .before .before .before .before .put-entries in
     let a = c .before .before .before .before .before .before .before .before .before .before .before .before .before .before .before .before .args in (
       p .ensures .0,
-      chunk-written _ _ _ _ _ _ _ (p .ensures .0) (a .prev) (a .next) _ _ (p .ensures .1) (c .before .before .put-frame .ensures)
+      chunk-written _ _ _ _ _ _ _ _ (p .ensures .0) (a .prev) (a .next) _ _ (p .ensures .1) (c .before .before .put-frame .ensures)
           ∙ whole-size (a .out .now) _ (c .before .before .before .before .before .before .before .before .before .before .before .before .if1 .left),
     )
 

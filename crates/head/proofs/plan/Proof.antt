@@ -4,7 +4,9 @@ use mathlib.Core.Bool.{true}
 use Prim.Native.Nat.{_-_}
 use native.Mathlib.Omega.{arith}
 use denote.Ref.{now}
-use Rattle.source.specs.Input.{inputRight}
+use Rattle.source.specs.Input.{given, inputRight}
+use Rattle.pack.specs.Levels.{level}
+use Rattle.pack.proofs.Levels.{chunks-given}
 use Rattle.head.specs.Plan.{Listed}
 use Rattle.head.proofs.Shaping.{Shaping, first-over, shaping-start, shaping-end, shaping-deep, shaping-over, shaping-turn}
 use borrow.Author.Needs.{needs}
@@ -12,7 +14,7 @@ use Rattle.head.proofs.plan.Statement.{statement}
 use Rattle.head.proofs.plan.Tie as tie
 
 abbrev Inv-loop : tie.InvT-loop
-Inv-loop input content n starts₀ m depth₀ base₀ end₀ starts depth base end = (inputRight content input ≡ true) × Shaping content input n m starts depth base end
+Inv-loop input content n starts₀ m depth₀ base₀ end₀ starts depth base end = (inputRight content input ≡ true) × Shaping content input n (level n true (given content input)) m starts depth base end
 
 abbrev μ-loop : tie.MeasureT-loop
 μ-loop input content n starts₀ m depth₀ base₀ end₀ starts depth base end = 6 - depth
@@ -47,7 +49,7 @@ returns-2 c =
     let l = listed e in
     let k = q .plan-listing .kept .1 .1 .1 .0 in
     let s = q .before .before .before .before .pre in
-    (l .right, first-over _ _ _ _ _ _ s k l (omega (arith, k, s, c .if1 .taken)))
+    (l .right, first-over _ _ _ _ _ _ _ s k l (chunks-given _ _ _ _) (omega (arith, k, s, c .if1 .taken)))
 
 loop-holds : tie.Need-loop-holds Inv-loop μ-loop
 loop-holds c =
@@ -56,7 +58,7 @@ loop-holds c =
     let l = listed e in
     let k = q .plan-listing .kept .1 .1 .1 .0 in
     let s = q .before .before .before .before .pre in
-    (l .right, shaping-start _ _ _ _ _ _ s k l (omega (arith, k, s, c .if1 .left)))
+    (l .right, shaping-start _ _ _ _ _ _ _ s k l (chunks-given _ _ _ _) (omega (arith, k, s, c .if1 .left)))
 
 sub-loop : tie.Need-sub-loop Inv-loop μ-loop
 sub-loop c = omega (arith, c .loop .inv .1 .size)
@@ -65,10 +67,10 @@ same-length-3 : tie.Need-same-length-3 Inv-loop μ-loop
 same-length-3 c = let l = c .before .before in l .loop .inv .1 .kept ∙ sym (l .before .before .before .before .before .before .before .before .before .before .before .pre)
 
 returns-3 : tie.Need-returns-3 Inv-loop μ-loop
-returns-3 c = let i = c .before .before .loop .inv in (i .0, shaping-deep _ _ _ _ _ _ _ _ (i .1) (c .before .loop-test .taken) (c .if2 .taken))
+returns-3 c = let i = c .before .before .loop .inv in (i .0, shaping-deep _ _ _ _ _ _ _ _ _ (i .1) (c .before .loop-test .taken) (c .if2 .taken))
 
 plan-level-requires : tie.Need-plan-level-requires Inv-loop μ-loop
-plan-level-requires c κs = let i = c .before .before .before .loop .inv .1 in (i .inside, omega (arith, i .kept))
+plan-level-requires c κs = let i = c .before .before .before .loop .inv .1 in (omega (arith, i .size), i .inside, omega (arith, i .kept))
 
 same-length-4 : tie.Need-same-length-4 Inv-loop μ-loop
 same-length-4 c =
@@ -82,7 +84,7 @@ returns-4 c =
     let l = q .before .before .before in
     let i = l .before .loop .inv in
     let k = q .plan-level .kept .1 .1 .1 .0 in
-    (i .0, shaping-over _ _ _ _ _ _ _ _ (i .1) (l .loop-test .taken) _ _ k (q .plan-level .ensures) (omega (arith, k, c .if3 .taken)))
+    (i .0, shaping-over _ _ _ _ _ _ _ _ _ (i .1) (l .loop-test .taken) _ _ k (q .plan-level .ensures) (omega (arith, k, c .if3 .taken)))
 
 add-depth : tie.Need-add-depth Inv-loop μ-loop
 add-depth c = omega (arith, c .before .before .before .before .before .before .before .loop .inv .1 .high)
@@ -96,13 +98,13 @@ loop-again c =
     let l = q .before .before .before in
     let i = l .before .loop .inv in
     let k = q .plan-level .kept .1 .1 .1 .0 in
-    (i .0, shaping-turn _ _ _ _ _ _ _ _ (i .1) (l .loop-test .taken) _ _ k (q .plan-level .ensures) (omega (arith, k, c .if3 .left)) (q .before .before .if2 .left))
+    (i .0, shaping-turn _ _ _ _ _ _ _ _ _ (i .1) (l .loop-test .taken) _ _ k (q .plan-level .ensures) (omega (arith, k, c .if3 .left)) (q .before .before .if2 .left))
 
 same-length-5 : tie.Need-same-length-5 Inv-loop μ-loop
 same-length-5 c = let l = c .before in l .loop .inv .1 .kept ∙ sym (l .before .before .before .before .before .before .before .before .before .before .before .pre)
 
 returns-5 : tie.Need-returns-5 Inv-loop μ-loop
-returns-5 c = let i = c .before .loop .inv in (i .0, shaping-end _ _ _ _ _ _ _ _ (i .1) (c .loop-test .left))
+returns-5 c = let i = c .before .loop .inv in (i .0, shaping-end _ _ _ _ _ _ _ _ _ (i .1) (c .loop-test .left))
 
 pub plan-spec : {M : Type 1} → statement M
 plan-spec =

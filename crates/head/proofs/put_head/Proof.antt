@@ -1,6 +1,6 @@
 -- `head::put_head` meets its contract. Assumes nothing.
 use native.Mathlib.Omega.{arith}
-use Rattle.head.proofs.Answers.{ready-level, ready-index, head-written}
+use Rattle.head.proofs.Answers.{leaves-are, ready-level, ready-index, head-written}
 use borrow.Author.Needs.{needs}
 use Rattle.head.proofs.put_head.Statement.{statement}
 use Rattle.head.proofs.put_head.Tie as tie
@@ -15,7 +15,7 @@ cast-put-level : tie.Need-cast-put-level
 cast-put-level c = let w = c .before .before .before .before .before .before .before .before .pre .0 .made in omega (arith, w .listings, w .counted, w .small)
 
 put-level-requires : tie.Need-put-level-requires
-put-level-requires c κs = rw (c .before .before .before .put-headers .kept .0) (ready-level _ _ _ _ _ _ _ _ (c .before .before .before .before .before .before .before .before .pre .0))
+put-level-requires c κs = rw (c .before .before .before .put-headers .kept .0) (ready-level _ _ _ _ _ _ _ _ _ (c .before .before .before .before .before .before .before .before .pre .0) (leaves-are _ _ _))
 
 cast-put-index : tie.Need-cast-put-index
 cast-put-index c = let w = c .before .before .before .before .before .before .before .before .before .before .before .before .pre .0 .made in omega (arith, w .listings, w .counted, w .small)
@@ -23,7 +23,7 @@ cast-put-index c = let w = c .before .before .before .before .before .before .be
 put-index-requires : tie.Need-put-index-requires
 put-index-requires c κs =
     let r = c .before .before .before .before .before .before .before .before .before .before .before .before .pre .0 in
-    (rw (c .before .before .before .put-level .kept .0, c .before .before .before .before .before .before .before .put-headers .kept .0) (ready-index _ _ _ _ _ _ _ _ r), r .some)
+    (rw (c .before .before .before .put-level .kept .0, c .before .before .before .before .before .before .before .put-headers .kept .0) (ready-index _ _ _ _ _ _ _ _ _ r (leaves-are _ _ _)), r .some)
 
 same-length : tie.Need-same-length
 same-length c = search needs
@@ -31,7 +31,7 @@ same-length c = search needs
 returns : tie.Need-returns
 returns c =
     let p = c .before .before .before .before .before .before .before .before .before .before .before .before .before .before .before .pre in
-    head-written _ _ _ _ _ _ _ _ (p .0) _ _ _ (p .1 .0) _ _ _ _
+    head-written _ _ _ _ _ _ _ _ _ (p .0) (leaves-are _ _ _) _ _ _ (p .1 .0) _ _ _ _
     (c .before .before .before .before .before .before .before .before .before .before .put-headers .ensures) (c .before .before .before .before .before .before .put-level .ensures .1) (c .before .before .put-index .ensures)
 
 pub put-head-spec : {M : Type 1} → statement M

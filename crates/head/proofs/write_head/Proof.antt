@@ -6,9 +6,9 @@ use denote.Ref.{now}
 use Rattle.fields.proofs.Tests.{held, failed}
 use Rattle.chunk.specs.Chunk.{spacingOf}
 use Rattle.layout.specs.Headers.{headLength}
-use Rattle.layout.specs.Layout.{takes}
-use Rattle.layout.proofs.Taken.{takes-told, some-leaves}
-use Rattle.layout.proofs.Filled.{list-whole}
+use Rattle.layout.specs.Layout.{takes, layoutFor}
+use Rattle.layout.proofs.Cut.{takes-told}
+use Rattle.layout.proofs.Filled.{leaves-some, list-whole}
 use Rattle.layout.proofs.Places.{length-head}
 use Rattle.head.specs.Plan.{limits, Made}
 use Rattle.head.proofs.Answers.{limits-dense, takes-both, takes-limits, takes-right, answer-18, answer-19, answer-20, answer-head, small-is, spacing-is}
@@ -30,7 +30,7 @@ taken c = takes-both _ _ _ (within (c .before .before .before .before .before .b
 
 -- the levels are planned
 made : (c : tie.After-shape) → let a = c .before .before .before .before .before .before .before .before .before .before .args in let v = c .shape .given .0 in
-    Made (a .content-length) (now (a .entries)) (spacingOf (a .density)) (c .before .before .before .plan .last .1 .1 .1 .0) (v .0) (v .1 .0) (v .1 .1 .0)
+    Made (now (a .entries)) (c .before .before .before .plan .last .1 .1 .1 .0) (layoutFor (a .density) (a .content-length) (now (a .entries))) (v .0) (v .1 .0) (v .1 .1 .0)
 made c = rw (spaced (c .before .before .before .before .before)) at ((rw (c .shape .given .1) at (c .before .before .before .plan .ensures)) .1)
 
 is-taken-requires : tie.Need-is-taken-requires
@@ -79,7 +79,7 @@ returns-2 : tie.Need-returns-2
 returns-2 c =
     let w = made (c .before .before .before) in
     let a = c .before .before .before .before .before .before .before .before .before .before .before .before .before .args in
-    answer-20 (now (a .entries)) (a .density) (a .time) (a .language) (a .content-length) (now (a .out)) (taken (c .before .before .before)) (small-is _ _ _ _ _ _ _ w) _ (w .counted) _ (c .refusal4 .ensures) (c .before .if2 .taken)
+    answer-20 (now (a .entries)) (a .density) (a .time) (a .language) (a .content-length) (now (a .out)) (taken (c .before .before .before)) (small-is _ _ _ _ _ _ w) _ (w .counted) _ (c .refusal4 .ensures) (c .before .if2 .taken)
 
 slice-aggregate-put-head : tie.Need-slice-aggregate-put-head
 slice-aggregate-put-head c = search needs
@@ -94,7 +94,7 @@ put-head-requires c κs =
       rw n (record {
         made = w;
         known = c .before .before .before .before .before .before .before .plan .kept .1 .1 .1 .0;
-        some = omega (arith, w .listings, some-leaves (spacingOf (a .density)) (a .content-length) (now (a .entries)) (g .some));
+        some = omega (arith, w .listings, leaves-some _ _ _ _ g);
         enough = c .before .before .if2 .left;
       }),
       (n, g .small),
@@ -121,8 +121,8 @@ returns-5 c =
     let t = taken (c .before .before .before .before .before .before .before) in
     let w = made (c .before .before .before .before .before .before .before) in
     let a = c .before .before .before .before .before .before .before .before .before .before .before .before .before .before .before .before .before .args in
-    answer-head (now (a .entries)) (a .density) (a .time) (a .language) (a .content-length) (now (a .out)) t (small-is _ _ _ _ _ _ _ w) _ (w .counted) (c .before .before .before .before .before .before .before .before .before .before .before .before .before .before .before .before .before .fits .time .fits) (c .before .before .before .before .before .before .before .before .before .before .before .before .before .before .before .before .before .fits .language .fits) _ (c .before .before .before .before .before .if2 .left)
-    (length-head (a .density) (a .time) (a .language) (a .content-length) _ (list-whole (spacingOf (a .density)) (a .content-length) (now (a .entries))) ∙ ap headLength (sym (w .counted)))
+    answer-head (now (a .entries)) (a .density) (a .time) (a .language) (a .content-length) (now (a .out)) t (small-is _ _ _ _ _ _ w) _ (w .counted) (c .before .before .before .before .before .before .before .before .before .before .before .before .before .before .before .before .before .fits .time .fits) (c .before .before .before .before .before .before .before .before .before .before .before .before .before .before .before .before .before .fits .language .fits) _ (c .before .before .before .before .before .if2 .left)
+    (length-head (a .density) (a .time) (a .language) (a .content-length) _ (list-whole _ _ _ _ (takes-told (a .density) (a .content-length) (now (a .entries)) t)) ∙ ap headLength (sym (w .counted)))
     (rw (spaced (c .before .before .before .before .before .before .before .before .before .before .before .before)) at (c .before .before .put-head .ensures))
 
 pub write-head-spec : {M : Type 1} → statement M

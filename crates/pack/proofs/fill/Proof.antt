@@ -1,9 +1,8 @@
 -- `pack::fill` meets its contract. The loop's invariant: what is taken, with what is yet to be taken, is the whole. Assumes nothing.
 use mathlib.Core.Path.{_≡_, refl, sym, _∙_}
-use Prim.Native.Nat.{_+_, _-_, _≤_}
+use Prim.Native.Nat.{_≤_}
 use native.Mathlib.Omega.{arith}
 use borrow.Author.Needs.{needs}
-use lib.ListN.{length}
 use denote.Ref.{now}
 use Rattle.source.specs.Source.{rowsFrom}
 use Rattle.pack.specs.Fill.{extentFrom}
@@ -14,16 +13,16 @@ use Rattle.pack.proofs.fill.Tie as tie
 abbrev Inv-loop : tie.InvT-loop
 Inv-loop input starts content from n f₀ f =
     (f .count ≤ f .bytes) × (f .bytes ≤ 4096)
-    × (extentFrom (from .listing) n (f .count) (f .bytes) (f .at) (rowsFrom content input starts (from .listing) (f .at))
-    ≡ extentFrom (from .listing) n 0 0 (from .at) (rowsFrom content input starts (from .listing) (from .at)))
+    × (extentFrom (from .listing) n (f .count) (f .bytes) (f .at) (f .left) (rowsFrom content input starts (from .listing) (f .left) (f .at))
+    ≡ extentFrom (from .listing) n 0 0 (from .at) (from .left) (rowsFrom content input starts (from .listing) (from .left) (from .at)))
 
 abbrev μ-loop : tie.MeasureT-loop
-μ-loop input starts content from n f₀ f = length input + length starts - f .at
+μ-loop input starts content from n f₀ f = f .left
 
 -- the entry that is next
 next : (c : tie.After-e Inv-loop μ-loop) → let l = c .before .before .before in let a = l .before .before .before .args in
-    Fitted (a .content) (now (a .input)) (now (a .starts)) (a .from .listing) (a .n) (l .loop .f .count) (l .loop .f .bytes) (l .loop .f .at) (c .e .given .0 .0) (c .e .given .0 .1 .0)
-next c = fitted _ _ _ _ _ _ _ _ _ _ (sym (c .before .before .next-fit .ensures) ∙ c .e .given .1)
+    Fitted (a .content) (now (a .input)) (now (a .starts)) (a .from .listing) (a .n) (l .loop .f .count) (l .loop .f .bytes) (l .loop .f .left) (l .loop .f .at) (c .e .given .0 .0) (c .e .given .0 .1 .0)
+next c = fitted _ _ _ _ _ _ _ _ _ _ _ (sym (c .before .before .next-fit .ensures) ∙ c .e .given .1)
 
 loop-holds : tie.Need-loop-holds Inv-loop μ-loop
 loop-holds c = (omega arith, omega arith, refl)
@@ -40,17 +39,20 @@ enum-told c = search needs
 returns : tie.Need-returns Inv-loop μ-loop
 returns c =
     let t = c .before .before in
-    sym (full _ _ _ _ _ _ _ _ (sym (t .next-fit .ensures) ∙ c .enum-told .given .1)) ∙ t .before .loop .inv .2
+    sym (full _ _ _ _ _ _ _ _ _ (sym (t .next-fit .ensures) ∙ c .enum-told .given .1)) ∙ t .before .loop .inv .2
 
 add-t10 : tie.Need-add-t10 Inv-loop μ-loop
 add-t10 c = search needs
 
+sub-t11 : tie.Need-sub-t11 Inv-loop μ-loop
+sub-t11 c = omega (arith, next (c .before .before .before) .some)
+
 loop-less : tie.Need-loop-less Inv-loop μ-loop
-loop-less c = let t = next (c .before .before) in omega (arith, t .moves, t .ends)
+loop-less c = let t = next (c .before .before .before) in omega (arith, t .some)
 
 loop-again : tie.Need-loop-again Inv-loop μ-loop
 loop-again c =
-    let e = c .before .before in
+    let e = c .before .before .before in
     let t = next e in
     let l = e .before .before .before .loop in
     (omega (arith, t .more, l .inv .0), omega (arith, t .room), t .turn ∙ l .inv .2)
@@ -67,5 +69,6 @@ fill-spec =
     enum-told
     returns
     add-t10
+    sub-t11
     loop-less
     loop-again)

@@ -1,4 +1,4 @@
--- What the head of a new book is worth: with its content behind it, it is a book, and that book lists the entries that the writer was given.
+-- What the head of a new book is worth: with its content behind it, it is a book, and that book lists the entries that its layout holds.
 -- Assumes nothing.
 use Prim.Native.Nat.{ℕ, _-_}
 use mathlib.Core.Path.{_≡_}
@@ -11,9 +11,8 @@ use Rattle.directory.specs.Opened.{opened}
 use Rattle.directory.specs.declared.Opened.the-variants.{Book}
 use Rattle.listing.specs.Whole.{wholeListing}
 use Rattle.source.specs.Stored.{Stored}
-use Rattle.source.specs.Input.{given}
 use Rattle.layout.specs.Headers.{headLength}
-use Rattle.layout.specs.Layout.{Layout, layoutFor, chunkCount, depthOf, rootOf, headBytes}
+use Rattle.layout.specs.Layout.{Layout, chunkCount, depthOf, rootOf, headBytes}
 
 -- the record that the inputs fix (FORMAT K1, W3 to W12)
 unfoldable pub recordFor : (density time language : ℕ) → Layout → Record
@@ -36,14 +35,14 @@ recordFor density time language l =
 abbrev pub toldOf : List ℕ → Report → Stored
 toldOf s r = record { name = part s (r .place) (r .length); section = r .section; offset = r .offset; size = r .size; child = 0 }
 
--- the book of the entries s and a content
-abbrev pub newBook : (density time language : ℕ) (s content : List ℕ) → List ℕ
-newBook density time language s content = headBytes density time language (length content) (layoutFor density (length content) s) ++ content
+-- a head of that layout with a content behind it
+abbrev pub newBook : (density time language : ℕ) → Layout → List ℕ → List ℕ
+newBook density time language l content = headBytes density time language (length content) l ++ content
 
--- ---- the round trip of the entries s, with content of a length, to a file
+-- ---- the round trip of the entries es, in chunks of a layout, to a file
 
-pub record RoundTrip (density time language content : ℕ) (s file : List ℕ) : Type 0 where
-  -- the file is a book, with the record that the inputs fix;
-  pub opens : opened file ≡ Book (recordFor density time language (layoutFor density content s))
+pub record RoundTrip (density time language : ℕ) (l : Layout) (es : List Stored) (file : List ℕ) : Type 0 where
+  -- the file is a book, with the record that the inputs and the layout fix;
+  pub opens : opened file ≡ Book (recordFor density time language l)
   -- its listing is the entries, name by name and number by number
-  pub lists : map (toldOf file) (wholeListing file (recordFor density time language (layoutFor density content s))) ≡ given content s
+  pub lists : map (toldOf file) (wholeListing file (recordFor density time language l)) ≡ es

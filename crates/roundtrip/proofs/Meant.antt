@@ -1,6 +1,6 @@
 -- A new book by its record: every chunk means the entries that its layout gives it.
 -- Assumes nothing.
-use mathlib.Core.Path.{_≡_, refl, sym, ap, ap₂, subst, _∙_}
+use mathlib.Core.Path.{_≡_, refl, ap, ap₂, _∙_}
 use mathlib.Core.Bool.{Bool, true, false}
 use mathlib.Core.List.{List, [], flatten}
 use Prim.Native.Nat.{ℕ, _+_, _-_, _^_, _≤_, _<_}
@@ -17,25 +17,21 @@ use Rattle.header.specs.declared.Record.{Record}
 use Rattle.header.specs.declared.Head.the-variants.{Good}
 use Rattle.book.specs.Book.{limitsOf, directoryOf}
 use Rattle.source.specs.Stored.{Stored}
-use Rattle.source.specs.Input.{given}
-use Rattle.source.proofs.All.{all-at, All, more, all-weaken, all-parts}
-use Rattle.source.proofs.Kept.{Kept, given-kept}
-use Rattle.pack.specs.Groups.{fits}
-use Rattle.pack.specs.Levels.{entrySize}
-use Rattle.pack.proofs.Groups.{groups-flat}
+use Rattle.source.proofs.All.{all-at, All, all-weaken}
+use Rattle.source.proofs.Kept.{Kept}
 use Rattle.compose.proofs.Placed.{Allowed}
 use Rattle.compose.proofs.Reading.{parsed-new}
 use Rattle.layout.specs.Headers.{headLength}
-use Rattle.layout.specs.Layout.{takes, Layout, layoutOf, layoutFor, chunkCount, depthOf, smallEnough, prevOf, nextOf, chunkList}
-use Rattle.layout.specs.RoundTrip.{recordFor, newBook}
-use Rattle.layout.proofs.Meaning.{Means}
+use Rattle.layout.specs.Layout.{Layout, layoutOver, chunkCount, depthOf, smallEnough, prevOf, nextOf, chunkList}
+use Rattle.roundtrip.specs.RoundTrip.{recordFor, newBook}
+use Rattle.roundtrip.proofs.Meaning.{Means}
 use Rattle.layout.proofs.Rising.{groups-rise}
-use Rattle.layout.proofs.Sound.{Child, Sound, Ordered, ordered-level, index-sound}
-use Rattle.layout.proofs.Taken.{Takes, takes-told, some-leaves}
-use Rattle.layout.proofs.Filled.{fit-room, shorts, leaves-fit, nodes-fit, list-whole}
+use Rattle.layout.proofs.Sound.{Child, Sound, Ordered, index-sound}
+use Rattle.layout.proofs.Cut.{Cut, cut-kept, cut-ordered}
+use Rattle.layout.proofs.Filled.{fit-room, leaves-some, nodes-fit, list-whole}
 use Rattle.layout.proofs.Indexed.{indexed}
 use Rattle.layout.proofs.Places.{length-book}
-use Rattle.layout.proofs.Framing.{head-read, leaf-read, node-read}
+use Rattle.roundtrip.proofs.Framing.{head-read, leaf-read, node-read}
 
 -- ---- the numbers of the chunks before and behind have room in their fields
 
@@ -65,42 +61,31 @@ child-allowed : (limits : Limits) → limits .count ≤ 4096 → (e : Stored) �
 child-allowed limits h e k =
     record { some = k .some; short = k .short; numbers = (k .below, omega (arith, k .below), k .section, k .offset, k .size) }
 
-module _ (density time language : ℕ) (s content : List ℕ) (t : time < 2 ^ 32) (g : language < 2 ^ 32)
-    (taken : takes density (length content) s ≡ true) (small : smallEnough (layoutFor density (length content) s) ≡ true) where
+module _ (density time language : ℕ) (es : List Stored) (gs : List (List Stored)) (content : List ℕ) (t : time < 2 ^ 32) (g : language < 2 ^ 32)
+    (cut : Cut density (length content) es gs) (small : smallEnough (layoutOver (spacingOf density) gs) ≡ true) where
   abbrev n : ℕ
   n = spacingOf density
 
-  abbrev es : List Stored
-  es = given (length content) s
-
   abbrev l : Layout
-  l = layoutFor density (length content) s
+  l = layoutOver n gs
 
   abbrev m : ℕ
   m = length (l .leaves)
 
   abbrev file : List ℕ
-  file = newBook density time language s content
+  file = newBook density time language l content
 
   abbrev book : Record
   book = recordFor density time language l
 
-  abbrev told : Takes density (length content) s
-  told = takes-told density (length content) s taken
-
   -- ---- the layout
 
-  ordered : Ordered (l .leaves)
-  unfolding layoutOf
-  ordered = ordered-level n true es (told .order) (all-weaken (λ (e : Stored) (k : Kept (length content) e). k .some) (given-kept (length content) s)) (shorts (length content) s)
-
-  leaves-kept : All (All (Kept (length content))) (l .leaves)
-  unfolding layoutOf
-  leaves-kept = all-parts (l .leaves) (subst (All (Kept (length content))) (sym (groups-flat (entrySize true) (fits true n) es)) (given-kept (length content) s))
+  abbrev ordered : Ordered gs
+  ordered = cut-ordered density (length content) es gs cut
 
   nodes-sound : All (Sound (chunkCount l)) (flatten (l .levels))
-  unfolding layoutOf
-  nodes-sound = index-sound n (chunkCount l) 5 0 (l .leaves) ordered (omega arith)
+  unfolding layoutOver
+  nodes-sound = index-sound n (chunkCount l) 5 0 gs ordered (omega arith)
 
   few : chunkCount l ≤ 4096
   unfolding smallEnough
@@ -109,21 +94,21 @@ module _ (density time language : ℕ) (s content : List ℕ) (t : time < 2 ^ 32
   -- ---- the parts of the file
 
   abbrev whole : All (λ (c : List ℕ). length c ≡ 4096) (chunkList n l)
-  whole = list-whole n (length content) s
+  whole = list-whole density (length content) es gs cut
 
   abbrev some : 0 < m
-  some = some-leaves n (length content) s (told .some)
+  some = leaves-some density (length content) es gs cut
 
   one : length (l .levels) ≡ 0 → m ≡ 1
-  unfolding layoutOf
-  one z = indexed n 4 0 (l .leaves) .one z some
+  unfolding layoutOver
+  one z = indexed n 4 0 gs .one z some
 
   index-some : 0 < length (l .levels) → 0 < length (flatten (l .levels))
-  unfolding layoutOf
-  index-some h = indexed n 4 0 (l .leaves) .more h
+  unfolding layoutOver
+  index-some h = indexed n 4 0 gs .more h
 
   pub head-good : headOf file ≡ Good book
-  head-good = head-read density time language l content (told .dense) t g (told .small) small some one index-some whole
+  head-good = head-read density time language l content (cut .dense) t g (cut .small) small some one index-some whole
 
   abbrev limits : Limits
   limits = record { density = density; count = chunkCount l; content = length content }
@@ -137,21 +122,21 @@ module _ (density time language : ℕ) (s content : List ℕ) (t : time < 2 ^ 32
   -- ---- the meaning of each chunk
 
   pub means : Means (directoryOf file book) l
-  unfolding directoryOf
+  unfolding directoryOf layoutOver
   means =
       record {
         leaf = λ c h.
-            let x = getD (l .leaves) c [] in
-            let f = all-at [] (l .leaves) c (leaves-fit n (length content) s) h in
-            ap₂ parsed limits-are (leaf-read density time language l content (told .dense) t g (told .small) small some one index-some whole c h)
+            let x = getD gs c [] in
+            let f = all-at [] gs c (cut .fit) h in
+            ap₂ parsed limits-are (leaf-read density time language l content (cut .dense) t g (cut .small) small some one index-some whole c h)
             ∙ parsed-new limits true (prevOf c) (nextOf m c) x (prev-small c (omega (arith, few))) (next-small m c (omega (arith, few))) (f .some) (fit-room true n x f)
-            (all-at [] (l .leaves) c (groups-rise [] (l .leaves) (ordered .named) (ordered .order)) h)
-            (all-weaken (kept-allowed limits) (all-at [] (l .leaves) c leaves-kept h));
+            (all-at [] gs c (groups-rise [] gs (ordered .named) (ordered .order)) h)
+            (all-weaken (kept-allowed limits) (all-at [] gs c (cut-kept density (length content) es gs cut) h));
         node = λ i h.
             let x = getD (flatten (l .levels)) i [] in
-            let f = all-at [] (flatten (l .levels)) i (nodes-fit n (length content) s) h in
+            let f = all-at [] (flatten (l .levels)) i (nodes-fit density (length content) es gs cut) h in
             let o = all-at [] (flatten (l .levels)) i nodes-sound h in
-            ap₂ parsed limits-are (node-read density time language l content (told .dense) t g (told .small) small some one index-some whole i h)
+            ap₂ parsed limits-are (node-read density time language l content (cut .dense) t g (cut .small) small some one index-some whole i h)
             ∙ parsed-new limits false (prevOf (m + i)) (nextOf m (m + i)) x (prev-small (m + i) (omega (arith, few))) (next-small m (m + i) (omega (arith, few))) (f .some) (fit-room false n x f)
             (o .order) (all-weaken (child-allowed limits few) (o .entries));
       }

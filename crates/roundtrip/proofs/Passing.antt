@@ -9,9 +9,9 @@ use native.Mathlib.Decide.{ℕ-discrete}
 use lib.Dec.{ltb, eqb}
 use borrow.Author.Tests.{le-leb, lt-ltb, eq-eqb, ne-eqb}
 use Rattle.header.specs.Header.{none, versionRight, lengthsRight, placesRight, contentRight, sectionsRight, boundsRight, endsRight, rootRight, directoryRight}
 use Rattle.layout.specs.Headers.{headLength}
 use Rattle.layout.specs.Layout.{rootOf}
-use Rattle.layout.proofs.Fields.{FileRead, DirectoryRead}
+use Rattle.roundtrip.proofs.Fields.{FileRead, DirectoryRead}
 
 module _ (t g n : ℕ) (h : List ℕ) (f : FileRead t g n h) where
   pub version-pass : versionRight h ≡ true

@@ -28,8 +28,8 @@ use Rattle.pack.specs.Levels.{entrySize, firstName, childrenOf, levelsAbove}
 use Rattle.pack.proofs.Groups.{groups-flat, groups-some}
 use Rattle.pack.proofs.Above.{upper, above-more, above-none, length-children}
 use Rattle.compose.proofs.Placed.{placedFrom}
-use Rattle.layout.proofs.Numbers.{numbers, in-numbers}
-use Rattle.layout.proofs.Stand.{asNode, Stand, stand-left, stand-right, placed-first}
+use Rattle.roundtrip.proofs.Numbers.{numbers, in-numbers}
+use Rattle.roundtrip.proofs.Stand.{asNode, Stand, stand-left, stand-right, placed-first}
 
 -- ---- lists taken over the children
 

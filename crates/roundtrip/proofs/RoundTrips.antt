@@ -1,5 +1,5 @@
--- The round trip (`round-trip`): a head that was written from entries that the writer takes, with content of that length behind it, is a book
--- with the record that the inputs fix, and its listing is those entries.
+-- The round trip (`round-trip`): the head of a layout over entries that are cut so that they fit, with content of that length behind it, is a book
+-- with the record that inputs and layout fix, and its listing is those entries.
 -- Assumes nothing.
 use mathlib.Core.Path.{_≡_, refl, sym, ap, ap₂, subst, _∙_}
 use mathlib.Core.Bool.{true}
@@ -24,21 +24,18 @@ use Rattle.directory.specs.declared.Opened.the-variants.{Book}
 use Rattle.listing.specs.Listing.{reportsIn}
 use Rattle.listing.specs.Whole.{wholeListing}
 use Rattle.source.specs.Stored.{Stored}
-use Rattle.source.specs.Input.{given}
-use Rattle.source.proofs.All.{all-at, All, none, more, all-parts}
-use Rattle.source.proofs.Kept.{Kept, given-kept}
-use Rattle.pack.specs.Groups.{fits}
+use Rattle.source.proofs.All.{all-at, All, none, more}
+use Rattle.source.proofs.Kept.{Kept}
 use Rattle.pack.specs.Levels.{entrySize}
-use Rattle.pack.proofs.Groups.{groups-flat}
 use Rattle.compose.proofs.Placed.{placedFrom}
-use Rattle.layout.specs.Layout.{takes, Layout, layoutOf, layoutFor, chunkCount, smallEnough}
-use Rattle.layout.specs.RoundTrip.{recordFor, toldOf, newBook, RoundTrip}
-use Rattle.layout.proofs.Numbers.{numbers}
-use Rattle.layout.proofs.Linking.{Links, links}
-use Rattle.layout.proofs.Taken.{takes-told}
-use Rattle.layout.proofs.Filled.{shorts}
-use Rattle.layout.proofs.Meant.{head-good, means}
-use Rattle.layout.proofs.Names.{There, names-there}
+use Rattle.layout.specs.Layout.{Layout, layoutOver, chunkCount, smallEnough}
+use Rattle.layout.proofs.Cut.{Cut, cut-kept, cut-ordered, cut-some}
+use Rattle.roundtrip.specs.RoundTrip.{recordFor, toldOf, newBook, RoundTrip}
+use Rattle.roundtrip.proofs.Meaning.{Means}
+use Rattle.roundtrip.proofs.Numbers.{numbers}
+use Rattle.roundtrip.proofs.Linking.{Links, links}
+use Rattle.roundtrip.proofs.Meant.{head-good, means}
+use Rattle.roundtrip.proofs.Names.{There, names-there}
 
 -- ---- opening: no chunk is at fault
 
@@ -92,16 +89,16 @@ told-chunks f t c (g ∷ gs) h =
     ∙ ap₂ (λ (x y : List Stored). x ++ y) first
     (told-chunks f t (c + 1) gs (λ i k. subst (λ (x : ℕ). map t (f x) ≡ getD gs i []) (omega arith) (h (suc i) (omega arith))))
 
-module _ (density time language : ℕ) (s content : List ℕ) (t : time < 2 ^ 32) (g : language < 2 ^ 32)
-    (taken : takes density (length content) s ≡ true) (small : smallEnough (layoutFor density (length content) s) ≡ true) where
+module _ (density time language : ℕ) (es : List Stored) (gs : List (List Stored)) (content : List ℕ) (t : time < 2 ^ 32) (g : language < 2 ^ 32)
+    (cut : Cut density (length content) es gs) (small : smallEnough (layoutOver (spacingOf density) gs) ≡ true) where
   abbrev l : Layout
-  l = layoutFor density (length content) s
+  l = layoutOver (spacingOf density) gs
 
   abbrev m : ℕ
   m = length (l .leaves)
 
   abbrev file : List ℕ
-  file = newBook density time language s content
+  file = newBook density time language l content
 
   abbrev book : Record
   book = recordFor density time language l
@@ -109,45 +106,44 @@ module _ (density time language : ℕ) (s content : List ℕ) (t : time < 2 ^ 32
   abbrev D : ℕ → Parsed
   D = directoryOf file book
 
-  linked : Links D (spacingOf density) (given (length content) s)
+  meant : Means D l
+  meant = means density time language es gs content t g cut small
+
+  linked : Links D l
   linked =
-      let k = takes-told density (length content) s taken in
-      links D (spacingOf density) (given (length content) s) (k .some) (k .order) (shorts (length content) s) small
-      (means density time language s content t g taken small)
+      links D (spacingOf density) gs (cut-some density (length content) es gs cut) (cut-ordered density (length content) es gs cut) small meant
 
   faultless : (c : ℕ) → c < chunkCount l → faultOf (D c) ≡ 0
   unfolding faultOf
   faultless c h =
-      let w = means density time language s content t g taken small in
       elim (decLe m c) [
-        | yes k ↦ subst (λ (x : ℕ). faultOf (D x) ≡ 0) (omega arith) (ap faultOf (w .node (c - m) (omega arith)))
-        | no k ↦ ap faultOf (w .leaf c (omega arith))
+        | yes k ↦ subst (λ (x : ℕ). faultOf (D x) ≡ 0) (omega arith) (ap faultOf (meant .node (c - m) (omega arith)))
+        | no k ↦ ap faultOf (meant .leaf c (omega arith))
       ]
 
   opens : opened file ≡ Book book
   unfolding opened linkedBook recordFor
   opens =
-      rw (head-good density time language s content t g taken small)
+      rw (head-good density time language es gs content t g cut small)
       (no-fault D (linkedBook file book) (chunkCount l) 0 (λ i k. subst (λ (x : ℕ). faultOf (D x) ≡ 0) (omega arith) (faultless i k)) ∙ rw (linked .chain-passes, linked .tree-passes) refl)
 
   -- the reports of listing chunk c
-  told : (c : ℕ) → c < m → map (toldOf file) (reportsIn file book c) ≡ getD (l .leaves) c []
-  unfolding directoryOf layoutOf
+  told : (c : ℕ) → c < length gs → map (toldOf file) (reportsIn file book c) ≡ getD gs c []
+  unfolding directoryOf layoutOver
   told c h =
-      let e = means density time language s content t g taken small .leaf c h in
+      let e = meant .leaf c h in
       let a = accepted (limitsOf file book) true (chunkBytes file book c) (ap (isKind true) e) in
-      let x = getD (l .leaves) c [] in
-      let es = names-there (limitsOf file book) (chunkBytes file book c) _ _ _ _ (a .entries) in
-      let kept = all-parts (l .leaves) (subst (All (Kept (length content))) (sym (groups-flat (entrySize true) (fits true (spacingOf density)) (given (length content) s))) (given-kept (length content) s)) in
+      let there = names-there (limitsOf file book) (chunkBytes file book c) _ _ _ _ (a .entries) in
+      let kept = all-at [] gs c (cut-kept density (length content) es gs cut) h in
       ap (λ (p : Parsed). map (toldOf file) (map (reportOf book c) (entriesIn p))) e
-      ∙ told-all file book c (a .size) (length content) 20 x (all-at [] (l .leaves) c kept h) (subst (λ (p : Parsed). All (There (chunkBytes file book c)) (entriesIn p)) e es)
+      ∙ told-all file book c (a .size) (length content) 20 (getD gs c []) kept (subst (λ (p : Parsed). All (There (chunkBytes file book c)) (entriesIn p)) e there)
 
-  lists : map (toldOf file) (wholeListing file book) ≡ given (length content) s
-  unfolding wholeListing layoutOf recordFor
+  lists : map (toldOf file) (wholeListing file book) ≡ es
+  unfolding wholeListing layoutOver recordFor
   lists =
       ap (λ (cs : List ℕ). map (toldOf file) (flatMap (reportsIn file book) cs)) (linked .chain-is)
-      ∙ told-chunks (reportsIn file book) (toldOf file) 0 (l .leaves) (λ i h. subst (λ (x : ℕ). map (toldOf file) (reportsIn file book x) ≡ getD (l .leaves) i []) (omega arith) (told i h))
-      ∙ groups-flat (entrySize true) (fits true (spacingOf density)) (given (length content) s)
+      ∙ told-chunks (reportsIn file book) (toldOf file) 0 gs (λ i h. subst (λ (x : ℕ). map (toldOf file) (reportsIn file book x) ≡ getD gs i []) (omega arith) (told i h))
+      ∙ cut .whole
 
-  pub round-trip : RoundTrip density time language (length content) s (newBook density time language s content)
+  pub round-trip : RoundTrip density time language l es file
   round-trip = record { opens = opens; lists = lists }

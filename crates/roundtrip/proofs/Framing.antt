@@ -20,13 +20,13 @@ use Rattle.book.specs.Book.{chunkBytes}
 use Rattle.source.specs.Stored.{Stored}
 use Rattle.source.proofs.All.{All}
 use Rattle.compose.specs.NewChunk.{newChunk}
 use Rattle.layout.specs.Headers.{headLength}
 use Rattle.layout.specs.Layout.{Layout, chunkCount, depthOf, rootOf, smallEnough, prevOf, nextOf, chunkList, headBytes}
-use Rattle.layout.specs.RoundTrip.{recordFor}
+use Rattle.roundtrip.specs.RoundTrip.{recordFor}
 use Rattle.layout.proofs.Standing.{list-leaf, list-node}
 use Rattle.layout.proofs.Places.{file-part, section-part, directory-part, length-book, book-chunk}
-use Rattle.layout.proofs.Fields.{FileRead, DirectoryRead, file-read, section-read, directory-read}
-use Rattle.layout.proofs.Passing.{version-pass, sections-pass, directory-pass}
+use Rattle.roundtrip.proofs.Fields.{FileRead, DirectoryRead, file-read, section-read, directory-read}
+use Rattle.roundtrip.proofs.Passing.{version-pass, sections-pass, directory-pass}
 
 -- no levels, no index chunks
 flat-none : (gs : List (List (List Stored))) → length gs ≡ 0 → length (flatten gs) ≡ 0

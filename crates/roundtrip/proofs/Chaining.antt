@@ -18,9 +18,9 @@ use Rattle.tree.proofs.Chunks.{is-listing}
 use Rattle.source.specs.Stored.{Stored, rises}
 use Rattle.source.proofs.All.{All, more}
 use Rattle.pack.specs.Levels.{firstName}
 use Rattle.layout.specs.Layout.{prevOf, nextOf}
-use Rattle.layout.proofs.Numbers.{numbers, in-numbers, all-members}
-use Rattle.layout.proofs.Stand.{asLeaf, Stand, placed-first, placed-last, rises-first}
+use Rattle.roundtrip.proofs.Numbers.{numbers, in-numbers, all-members}
+use Rattle.roundtrip.proofs.Stand.{asLeaf, Stand, placed-first, placed-last, rises-first}
 
 -- ---- the numbers of the chunks before and behind
 

@@ -18,11 +18,11 @@ use Rattle.tree.specs.Tree.{top, leaves, indexChunks, shaped, treeOk}
 use Rattle.tree.proofs.Lists.{onTest}
 use Rattle.tree.proofs.Chunks.{is-listing}
 use Rattle.source.specs.Stored.{Stored}
 use Rattle.layout.specs.Layout.{Layout, depthOf, chunkCount, rootOf}
-use Rattle.layout.proofs.Meaning.{shapeFor}
-use Rattle.layout.proofs.Numbers.{numbers, all-members}
-use Rattle.layout.proofs.Stand.{asLeaf, Stand, placed-first}
-use Rattle.layout.proofs.Growing.{Named, Level, Top}
+use Rattle.roundtrip.proofs.Meaning.{shapeFor}
+use Rattle.roundtrip.proofs.Numbers.{numbers, all-members}
+use Rattle.roundtrip.proofs.Stand.{asLeaf, Stand, placed-first}
+use Rattle.roundtrip.proofs.Growing.{Named, Level, Top}
 
 -- ---- the listing chunks
 

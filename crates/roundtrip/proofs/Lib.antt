@@ -1,0 +1,13 @@
+pub mod Meaning
+pub mod Numbers
+pub mod Stand
+pub mod Chaining
+pub mod Growing
+pub mod Rooting
+pub mod Linking
+pub mod Fields
+pub mod Passing
+pub mod Framing
+pub mod Meant
+pub mod Names
+pub mod RoundTrips
