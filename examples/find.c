@@ -14,7 +14,7 @@
 
 #include "hodsplinter.h"
 
-/* The record's numbers that are used here, of the eleven. */
+/* Where in a record the numbers stand that are used here. */
 enum { COUNT = 4, DEPTH = 6, CONTENT = 10 };
 
 /* The refusals of docs/FORMAT.md that opening and lookup give, 1 to 17. */
