@@ -20,6 +20,7 @@ use Rattle.pack.proofs.Levels.{chunks-given}
 use Rattle.compose.proofs.Words.{three}
 use Rattle.layout.specs.Headers.{headLength, fileHeader, sectionZero, directoryHeader}
 use Rattle.layout.specs.Layout.{takes, Layout, layoutOver, layoutOf, layoutFor, chunkCount, depthOf, smallEnough, rootOf, chunksOf, chunkList, headBytes}
+use Rattle.layout.proofs.Small.{small-is}
 use Rattle.layout.proofs.Cut.{Cut, takes-told}
 use Rattle.roundtrip.specs.RoundTrip.{newBook, RoundTrip}
 use Rattle.roundtrip.proofs.RoundTrips.{round-trip}
@@ -175,9 +176,5 @@ module _ (s : List ℕ) (density time language content : ℕ) (out : List ℕ) w
         let p = w ∙ sets-parts out 0 head (omega arith) ∙ ap (λ (i : ℕ). head ++ drop i out) z in
         (rw (h, small, ← c, le-leb (headLength count) room enough), (p, worth t g o p lh))
 
-pub small-is : (s starts : List ℕ) (l : Layout) (m depth count : ℕ) → Made s starts l m depth count → smallEnough l ≡ true
-unfolding smallEnough
-small-is s starts l m depth count w =
-    let c = w .counted in
-    let d = w .deep in
-    rw (le-leb (chunkCount l) 4096 (omega (arith, w .small)), le-leb (depthOf l) 5 (omega (arith, w .flat)))
+pub made-small : (s starts : List ℕ) (l : Layout) (m depth count : ℕ) → Made s starts l m depth count → smallEnough l ≡ true
+made-small s starts l m depth count w = small-is l (omega (arith, w .counted, w .small)) (omega (arith, w .deep, w .flat))

@@ -8,16 +8,14 @@ use Prim.Native.Nat.{ℕ, suc, _+_, _-_, _≤_, _<_}
 use native.Mathlib.Omega.{arith}
 use lib.ListN.{length, take, length-append, length-map}
 use lib.Seq.{take-add, take-take, length-take-le}
-use borrow.Author.Tests.{lt-leb}
 use Rattle.fields.specs.Part.{part}
-use Rattle.fields.proofs.Tests.{and-no}
-use lib.Dec.{leb}
 use Rattle.source.specs.Stored.{Stored, storedOf}
 use Rattle.pack.specs.Levels.{level, childrenOf, levelsAbove}
 use Rattle.pack.specs.Starts.{chunksFrom, firstAt, Starts, AllStarts}
 use Rattle.pack.proofs.Levels.{chunks-children, starts-of}
 use Rattle.pack.proofs.Above.{upper, above-more, above-none}
 use Rattle.layout.specs.Layout.{Layout, layoutOver, chunkCount, depthOf, smallEnough}
+use Rattle.layout.proofs.Small.{too-many, too-deep}
 use Rattle.head.specs.Plan.{Listed, LevelPlanned, Made}
 use Rattle.fields.proofs.Parts.{length-part, part-alike}
 use Rattle.head.proofs.Lent.{written-back, front-kept}
@@ -39,16 +37,6 @@ module _ (content : ℕ) (s : List ℕ) (n : ℕ) (starts : List ℕ) (base end 
 
   pub upper-count : length (chunksFrom content s (take end starts) false n (end - base) base) ≡ length (upper n 0 base gs)
   upper-count = sym (length-map (chunksFrom content s (take end starts) false n (end - base) base) (map (storedOf s))) ∙ ap length upper-is
-
--- ---- too many
-
-too-many : (l : Layout) → 4096 < chunkCount l → smallEnough l ≡ false
-unfolding smallEnough
-too-many l h = rw (lt-leb (chunkCount l) 4096 h)
-
-too-deep : (l : Layout) → 5 < depthOf l → smallEnough l ≡ false
-unfolding smallEnough
-too-deep l h = rw (lt-leb (depthOf l) 5 h) (and-no (leb (chunkCount l) 4096))
 
 -- ---- the loop
 

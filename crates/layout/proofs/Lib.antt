@@ -1,3 +1,4 @@
+pub mod Small
 pub mod Rising
 pub mod Sound
 pub mod Cut

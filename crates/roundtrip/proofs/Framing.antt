@@ -8,10 +8,9 @@ use mathlib.Core.Path.{_≡_, refl, sym, ap, _∙_}
 use mathlib.Core.Bool.{true, false}
 use mathlib.Core.List.{List, [], _∷_, _++_, flatten}
 use lib.ListN.{length, getD}
-use borrow.Author.Tests.{leb-true, le-leb, eq-eqb, ne-eqb}
+use borrow.Author.Tests.{le-leb, eq-eqb, ne-eqb}
 use Rattle.fields.specs.Le.{le}
 use Rattle.fields.proofs.Parts.{part-inside}
-use Rattle.fields.proofs.Tests.{and-both}
 use Rattle.chunk.specs.Chunk.{spacingOf}
 use Rattle.header.specs.Header.{longEnough, lengthRight, headerIn, sectionIn, directoryIn, recordFrom, headOf}
 use Rattle.header.specs.declared.Head.the-variants.{Good}
@@ -23,6 +22,7 @@ use Rattle.compose.specs.NewChunk.{newChunk}
 use Rattle.layout.specs.Headers.{headLength}
 use Rattle.layout.specs.Layout.{Layout, chunkCount, depthOf, rootOf, smallEnough, prevOf, nextOf, chunkList, headBytes}
 use Rattle.roundtrip.specs.RoundTrip.{recordFor}
+use Rattle.layout.proofs.Small.{small-told}
 use Rattle.layout.proofs.Standing.{list-leaf, list-node}
 use Rattle.layout.proofs.Places.{file-part, section-part, directory-part, length-book, book-chunk}
 use Rattle.roundtrip.proofs.Fields.{FileRead, DirectoryRead, file-read, section-read, directory-read}
@@ -77,8 +77,7 @@ module _ (density time language : ℕ) (l : Layout) (content : List ℕ) (dense 
   long = length-book density time language l content whole
 
   few : (n ≤ 4096) × (p ≤ 5)
-  unfolding smallEnough
-  few = let t = and-both _ _ small in (leb-true _ _ (t .0), leb-true _ _ (t .1))
+  few = small-told l small
 
   head : FileRead time language n (headerIn file)
   head = rw (file-part density time language l content) (file-read time language n t g (omega (arith, few)))

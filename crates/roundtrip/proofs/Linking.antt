@@ -7,14 +7,14 @@ use mathlib.Core.List.{List, [], flatten}
 use native.Mathlib.Omega.{arith}
 use native.Mathlib.Decide.{decLe}
 use lib.ListN.{length, getD}
-use borrow.Author.Tests.{leb-true}
-use Rattle.fields.proofs.Tests.{never, and-both}
+use Rattle.fields.proofs.Tests.{never}
 use Rattle.chunk.specs.Chunk.{Parsed}
 use Rattle.tree.specs.Shape.{isListing, isIndex}
 use Rattle.tree.specs.Chain.{chain, chainOk}
 use Rattle.tree.specs.Tree.{treeOk}
 use Rattle.source.specs.Stored.{Stored}
-use Rattle.layout.specs.Layout.{Layout, layoutOver, chunkCount, depthOf, smallEnough}
+use Rattle.layout.specs.Layout.{Layout, layoutOver, chunkCount, smallEnough}
+use Rattle.layout.proofs.Small.{small-told}
 use Rattle.layout.proofs.Sound.{Ordered}
 use Rattle.roundtrip.proofs.Meaning.{shapeFor, Means}
 use Rattle.roundtrip.proofs.Numbers.{numbers}
@@ -29,10 +29,6 @@ pub record Links (D : ℕ → Parsed) (l : Layout) : Type 0 where
   pub tree-passes : treeOk D (shapeFor l) ≡ true
 
 -- ---- the chunks of a layout in a directory that means it
-
-small-is : (l : Layout) → smallEnough l ≡ true → (chunkCount l ≤ 4096) × (depthOf l ≤ 5)
-unfolding smallEnough
-small-is l h = let t = and-both _ _ h in (leb-true (chunkCount l) 4096 (t .0), leb-true (depthOf l) 5 (t .1))
 
 module _ (D : ℕ → Parsed) (l : Layout) (means : Means D l) where
   abbrev m : ℕ
@@ -66,7 +62,7 @@ pub links : (D : ℕ → Parsed) (n : ℕ) (gs : List (List Stored)) → 0 < len
 unfolding layoutOver
 links D n gs full ordered small means =
     let l = layoutOver n gs in
-    let few = small-is l small in
+    let few = small-told l small in
     let s = leaves-stand D l means in
     let c : Chained D (shapeFor l) (length gs)
     = chained D (shapeFor l) gs (omega arith) (omega arith) refl refl full (ordered .order) (ordered .some) s (listing-kind D l means) in

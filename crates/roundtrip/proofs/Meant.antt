@@ -7,9 +7,8 @@ use Prim.Native.Nat.{ℕ, _+_, _-_, _^_, _≤_, _<_}
 use native.Mathlib.Omega.{arith}
 use native.Mathlib.Decide.{ℕ-discrete}
 use lib.ListN.{length, getD}
-use lib.Dec.{leb, ltb}
-use borrow.Author.Tests.{leb-true, ltb-true, eq-eqb, ne-eqb}
-use Rattle.fields.proofs.Tests.{and-both}
+use lib.Dec.{ltb}
+use borrow.Author.Tests.{ltb-true, eq-eqb, ne-eqb}
 use Rattle.entries.specs.declared.Limits.{Limits}
 use Rattle.chunk.specs.Chunk.{parsed, spacingOf}
 use Rattle.header.specs.Header.{headOf}
@@ -22,9 +21,10 @@ use Rattle.source.proofs.Kept.{Kept}
 use Rattle.compose.proofs.Placed.{Allowed}
 use Rattle.compose.proofs.Reading.{parsed-new}
 use Rattle.layout.specs.Headers.{headLength}
-use Rattle.layout.specs.Layout.{Layout, layoutOver, chunkCount, depthOf, smallEnough, prevOf, nextOf, chunkList}
+use Rattle.layout.specs.Layout.{Layout, layoutOver, chunkCount, smallEnough, prevOf, nextOf, chunkList}
 use Rattle.roundtrip.specs.RoundTrip.{recordFor, newBook}
 use Rattle.roundtrip.proofs.Meaning.{Means}
+use Rattle.layout.proofs.Small.{small-told}
 use Rattle.layout.proofs.Rising.{groups-rise}
 use Rattle.layout.proofs.Sound.{Child, Sound, Ordered, index-sound}
 use Rattle.layout.proofs.Cut.{Cut, cut-kept, cut-ordered}
@@ -88,8 +88,7 @@ module _ (density time language : ℕ) (es : List Stored) (gs : List (List Store
   nodes-sound = index-sound n (chunkCount l) 5 0 gs ordered (omega arith)
 
   few : chunkCount l ≤ 4096
-  unfolding smallEnough
-  few = leb-true (chunkCount l) 4096 (and-both (leb (chunkCount l) 4096) (leb (depthOf l) 5) small .0)
+  few = small-told l small .0
 
   -- ---- the parts of the file
 

@@ -11,7 +11,7 @@ use Rattle.layout.proofs.Cut.{takes-told}
 use Rattle.layout.proofs.Filled.{leaves-some, list-whole}
 use Rattle.layout.proofs.Places.{length-head}
 use Rattle.head.specs.Plan.{limits, Made}
-use Rattle.head.proofs.Answers.{limits-dense, takes-both, takes-limits, takes-right, answer-18, answer-19, answer-20, answer-head, small-is, spacing-is}
+use Rattle.head.proofs.Answers.{limits-dense, takes-both, takes-limits, takes-right, answer-18, answer-19, answer-20, answer-head, made-small, spacing-is}
 use borrow.Author.Needs.{needs}
 use Rattle.head.proofs.write_head.Statement.{statement}
 use Rattle.head.proofs.write_head.Tie as tie
@@ -79,7 +79,7 @@ returns-2 : tie.Need-returns-2
 returns-2 c =
     let w = made (c .before .before .before) in
     let a = c .before .before .before .before .before .before .before .before .before .before .before .before .before .args in
-    answer-20 (now (a .entries)) (a .density) (a .time) (a .language) (a .content-length) (now (a .out)) (taken (c .before .before .before)) (small-is _ _ _ _ _ _ w) _ (w .counted) _ (c .refusal4 .ensures) (c .before .if2 .taken)
+    answer-20 (now (a .entries)) (a .density) (a .time) (a .language) (a .content-length) (now (a .out)) (taken (c .before .before .before)) (made-small _ _ _ _ _ _ w) _ (w .counted) _ (c .refusal4 .ensures) (c .before .if2 .taken)
 
 slice-aggregate-put-head : tie.Need-slice-aggregate-put-head
 slice-aggregate-put-head c = search needs
@@ -121,7 +121,7 @@ returns-5 c =
     let t = taken (c .before .before .before .before .before .before .before) in
     let w = made (c .before .before .before .before .before .before .before) in
     let a = c .before .before .before .before .before .before .before .before .before .before .before .before .before .before .before .before .before .args in
-    answer-head (now (a .entries)) (a .density) (a .time) (a .language) (a .content-length) (now (a .out)) t (small-is _ _ _ _ _ _ w) _ (w .counted) (c .before .before .before .before .before .before .before .before .before .before .before .before .before .before .before .before .before .fits .time .fits) (c .before .before .before .before .before .before .before .before .before .before .before .before .before .before .before .before .before .fits .language .fits) _ (c .before .before .before .before .before .if2 .left)
+    answer-head (now (a .entries)) (a .density) (a .time) (a .language) (a .content-length) (now (a .out)) t (made-small _ _ _ _ _ _ w) _ (w .counted) (c .before .before .before .before .before .before .before .before .before .before .before .before .before .before .before .before .before .fits .time .fits) (c .before .before .before .before .before .before .before .before .before .before .before .before .before .before .before .before .before .fits .language .fits) _ (c .before .before .before .before .before .if2 .left)
     (length-head (a .density) (a .time) (a .language) (a .content-length) _ (list-whole _ _ _ _ (takes-told (a .density) (a .content-length) (now (a .entries)) t)) ∙ ap headLength (sym (w .counted)))
     (rw (spaced (c .before .before .before .before .before .before .before .before .before .before .before .before)) at (c .before .before .put-head .ensures))
 
