@@ -3,12 +3,14 @@ ghost use mathlib.Core.Path.{_≡_};
 ghost use mathlib.Core.Bool.{cond};
 ghost use Prim.Native.Nat.{_+_, _-_, _/_};
 ghost use lib.Dec.{leb};
-ghost use Rattle.book.specs.Book.{limitsOf, chunkBytes, chunkPlace, shapeOf, bookFits, metChunk, reportAt};
+ghost use Rattle.book.specs.Book.{limitsOf, chunkBytes, chunkPlace, shapeOf, bookFits, metChunk, refusalOf, reportAt};
+ghost use Rattle.book.specs.Search.{searchIn};
 ghost use Rattle.tree.specs.Tree.{top};
 use chunk::Chunk;
 use entries::Limits;
 use entries::Place;
 use header::Record;
+use seek::Hit;
 
 // A refusal's number, and the chunk that it belongs to: FFFFFFFF where it belongs to none.
 pub struct Refusal {
@@ -23,6 +25,23 @@ pub struct Report {
     pub section: u64,
     pub offset: u64,
     pub size: u64,
+}
+
+// What the search for a name in one listing chunk comes to: its entry, or the number of the chunk's next; `Barred` where there is no listing chunk.
+pub enum Search {
+    Found(Report),
+    Next(u32),
+    Barred,
+}
+
+// A refusal that belongs to no chunk.
+pub fn refuse(number: u8) -> Refusal
+    ensures { λ r. ⌜ r ≡ refusalOf number ⌝ }
+{
+    Refusal {
+        number: number,
+        chunk: tree::no_chunk(),
+    }
 }
 
 // Whether a record can be asked; it may be made up.
@@ -144,5 +163,18 @@ pub fn report_of(file: &[u8], book: Record, c: u64, e: Place) -> Report
         section: e.section,
         offset: e.offset,
         size: e.size,
+    }
+}
+
+// The search for a name in chunk c, which is checked whole first.
+pub fn search_in(file: &[u8], book: Record, name: &[u8], c: u64) -> Search
+    ensures { λ r. ⌜ r ≡ searchIn (now (file .entry)) book (now (name .entry)) c ⌝ }
+{
+    let Chunk::Listing(_, next) = met(file, book, c) else {
+        return Search::Barred;
+    };
+    match seek::find(chunk_bytes(file, book, c), limits(file, book), name) {
+        Hit::At(e) => Search::Found(report_of(file, book, c, e)),
+        Hit::Nothing => Search::Next(next),
     }
 }

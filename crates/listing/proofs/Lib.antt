@@ -1,4 +1,3 @@
-pub mod Led
 pub mod Read
 pub mod Stepping
 pub mod Writing

@@ -10,7 +10,7 @@ use Rattle.chunk.specs.Chunk.{Parsed, entriesIn}
 use Rattle.seek.specs.Seek.{Sought, absent, found, nth}
 use Rattle.header.specs.declared.Record.{Record}
 use Rattle.tree.specs.Shape.{noChunk, nextOf, listingChunk}
-use Rattle.book.specs.Book.{directoryOf, shapeOf, bookFits, reportOf}
+use Rattle.book.specs.Book.{directoryOf, shapeOf, bookFits, refusalOf, reportOf}
 use Rattle.book.specs.declared.Refusal.{Refusal}
 use Rattle.book.specs.declared.Report.{Report}
 use Rattle.listing.specs.declared.Cursor.{Cursor}
@@ -21,7 +21,7 @@ use Rattle.listing.specs.declared.Page.the-variants.{Entries, Short}
 
 -- the one refusal of listing; it belongs to no chunk (R17, RO7)
 abbrev pub refusal : Refusal
-refusal = record { number = 17; chunk = noChunk }
+refusal = refusalOf 17
 
 -- ---- the cursor
 

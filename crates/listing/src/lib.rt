@@ -8,7 +8,7 @@ ghost use Rattle.fields.specs.Part.{partOf};
 ghost use Rattle.chunk.specs.Chunk.{countOf};
 ghost use Rattle.tree.specs.Shape.{isListing, nextOf};
 ghost use Rattle.book.specs.Book.{chunkBytes, directoryOf};
-ghost use Rattle.listing.specs.Listing.{refusal, startOf, entryStep, stepped, fiveOf, numbersOf, reportsIn, pageOf, pageIn};
+ghost use Rattle.listing.specs.Listing.{startOf, entryStep, stepped, fiveOf, numbersOf, reportsIn, pageOf, pageIn};
 use book::Refusal;
 use book::Report;
 use chunk::Chunk;
@@ -36,16 +36,6 @@ pub enum Page {
     Refused(Refusal),
 }
 
-// The refusal of a record, a chunk or an entry that cannot be listed.
-fn no_listing() -> Refusal
-    ensures { λ r. ⌜ r ≡ refusal ⌝ }
-{
-    Refusal {
-        number: 17,
-        chunk: 0xFFFF_FFFF,
-    }
-}
-
 // The step at an entry of a listing chunk that was checked, with its next chunk.
 fn step_in(file: &[u8], book: Record, at: Cursor, next: u32) -> Step
     requires { ⌜ isListing (directoryOf (now file) book (at .chunk)) ≡ true ⌝ }
@@ -54,7 +44,7 @@ fn step_in(file: &[u8], book: Record, at: Cursor, next: u32) -> Step
 {
     let c = book::chunk_bytes(file, book, at.chunk);
     let Hit::At(e) = seek::nth_entry(c, book::limits(file, book), true, at.entry as usize) else {
-        return Step::Refused(no_listing());
+        return Step::Refused(book::refuse(17));
     };
     let r = book::report_of(file, book, at.chunk, e);
     let total = fields::le16(c, 4094) as u64;
@@ -88,15 +78,15 @@ impl Cursor {
         ensures { λ r. ⌜ r ≡ stepped (now (file .entry)) book self ⌝ }
     {
         if !book::fits(file, book) {
-            return Step::Refused(no_listing());
+            return Step::Refused(book::refuse(17));
         }
         if self.chunk == 0xFFFF_FFFF {
             return Step::End(self);
         }
         match book::met(file, book, self.chunk) {
             Chunk::Listing(_, next) => step_in(file, book, self, next),
-            Chunk::Index => Step::Refused(no_listing()),
-            Chunk::Refused(_) => Step::Refused(no_listing()),
+            Chunk::Index => Step::Refused(book::refuse(17)),
+            Chunk::Refused(_) => Step::Refused(book::refuse(17)),
         }
     }
 }
@@ -140,12 +130,12 @@ pub fn page_of(file: &[u8], book: Record, chunk: u64, out: &mut [u64]) -> Page
     ensures written { λ _. ⌜ now (out .exit) ≡ pageIn (now (file .entry)) book chunk (now (out .entry)) ⌝ }
 {
     if !book::fits(file, book) {
-        return Page::Refused(no_listing());
+        return Page::Refused(book::refuse(17));
     }
     let next = match book::met(file, book, chunk) {
         Chunk::Listing(_, next) => next,
-        Chunk::Index => return Page::Refused(no_listing()),
-        Chunk::Refused(_) => return Page::Refused(no_listing()),
+        Chunk::Index => return Page::Refused(book::refuse(17)),
+        Chunk::Refused(_) => return Page::Refused(book::refuse(17)),
     };
     let total = fields::le16(book::chunk_bytes(file, book, chunk), 4094) as u32;
     if out.len() < 5 * (total as usize) {

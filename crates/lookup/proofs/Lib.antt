@@ -1,4 +1,3 @@
-pub mod Meeting
 pub mod Steps
 pub mod Trail
 pub mod Descending

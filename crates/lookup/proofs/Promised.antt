@@ -9,6 +9,7 @@ use lib.ListN.{length}
 use lib.Dec.{leb}
 use borrow.Author.Tests.{le-leb, lt-leb, leb-true}
 use Rattle.fields.proofs.Tests.{and-both}
+use Rattle.names.specs.Names.{askable}
 use Rattle.header.specs.Header.{within}
 use Rattle.header.specs.declared.Record.{Record}
 use Rattle.tree.specs.Tree.{top}
@@ -16,7 +17,7 @@ use Rattle.tree.specs.Descent.{outcome, trail}
 use Rattle.book.specs.Book.{shapeOf, bookFits}
 use Rattle.directory.specs.Opened.{opened}
 use Rattle.directory.specs.declared.Opened.the-variants.{Book}
-use Rattle.lookup.specs.Lookup.{trailIn, outcomeIn, refusal, answerOf, nameFits, lookedUp, trailAfter}
+use Rattle.lookup.specs.Lookup.{trailIn, outcomeIn, refusal, answerOf, lookedUp, trailAfter}
 use Rattle.lookup.specs.Step.{Descended}
 use Rattle.lookup.specs.Complete.{Complete}
 use Rattle.lookup.specs.declared.Answer.{Answer}
@@ -52,11 +53,11 @@ module _ (s : List ℕ) (book : Record) (name was : List ℕ) where
   unfolding trailAfter
   refuses n r p q = promised r was (p ∙ sym q) (rw q refl)
 
-  pub name-bad : (r : Answer) → nameFits name ≡ false → r ≡ refusal 15 → Promised r was
+  pub name-bad : (r : Answer) → askable name ≡ false → r ≡ refusal 15 → Promised r was
   unfolding lookedUp
   name-bad r h p = refuses 15 r p (rw h refl)
 
-  module _ (good : nameFits name ≡ true) where
+  module _ (good : askable name ≡ true) where
     pub trail-short : (r : Answer) → length was < 5 → r ≡ refusal 16 → Promised r was
     unfolding lookedUp
     trail-short r h p = refuses 16 r p (rw (good, lt-leb 5 (length was) h) refl)

@@ -6,12 +6,13 @@ use mathlib.Core.List.{List}
 use Prim.Native.Nat.{ℕ, _≤_}
 use native.Mathlib.Omega.{arith}
 use lib.Dec.{leb}
+use Rattle.names.specs.Names.{askable}
 use Rattle.header.specs.declared.Record.{Record}
 use Rattle.tree.specs.Shape.{noChunk}
 use Rattle.tree.specs.Descent.{Outcome, found, absent, refused}
 use Rattle.book.specs.Book.{bookFits}
 use Rattle.book.specs.declared.Refusal.{Refusal}
-use Rattle.lookup.specs.Lookup.{outcomeIn, countIn, refusal, answerOf, nameFits, lookedUp}
+use Rattle.lookup.specs.Lookup.{outcomeIn, countIn, refusal, answerOf, lookedUp}
 use Rattle.lookup.specs.declared.Answer.the-variants.{Refused}
 
 abbrev InTable : Refusal → Type 0
@@ -31,7 +32,7 @@ answer-told book n refused x q = told 17 x (omega arith) (omega arith) q
 pub lookup-refusal : (s : List ℕ) (book : Record) (name : List ℕ) (places : ℕ) (x : Refusal) → lookedUp s book name places ≡ Refused x
     → (15 ≤ x .number) × (x .number ≤ 17) × (x .chunk ≡ noChunk)
 unfolding lookedUp
-lookup-refusal s book name places x = go (nameFits name) (leb 5 places) (bookFits s book)
+lookup-refusal s book name places x = go (askable name) (leb 5 places) (bookFits s book)
   where
     go : (a b c : Bool) → cond a (cond b (cond c (answerOf book (countIn s book name) (outcomeIn s book name)) (refusal 17)) (refusal 16)) (refusal 15) ≡ Refused x → InTable x
     go true true true q = answer-told book (countIn s book name) (outcomeIn s book name) x q

@@ -6,11 +6,10 @@ use Prim.Native.Nat.{ℕ}
 use lib.ListN.{length}
 use lib.Seq.{sets}
 use lib.Dec.{leb}
-use Rattle.header.specs.Header.{within}
+use Rattle.names.specs.Names.{askable}
 use Rattle.header.specs.declared.Record.{Record}
-use Rattle.tree.specs.Shape.{noChunk}
 use Rattle.tree.specs.Descent.{Outcome, found, absent, refused, outcome, trail}
-use Rattle.book.specs.Book.{directoryOf, shapeOf, bookFits, reportOf}
+use Rattle.book.specs.Book.{directoryOf, shapeOf, bookFits, refusalOf, reportOf}
 use Rattle.lookup.specs.declared.Answer.{Answer}
 use Rattle.lookup.specs.declared.Answer.the-variants.{Found, Absent, Refused}
 
@@ -32,7 +31,7 @@ countIn s book name = length (trailIn s book name)
 
 -- a refusal of lookup has no chunk for its place (RO7)
 abbrev pub refusal : ℕ → Answer
-refusal n = Refused (record { number = n; chunk = noChunk })
+refusal n = Refused (refusalOf n)
 
 -- what a descent of n chunks answers (K3): found has the five numbers of the entry (K6), and found and absent, which are no refusals (RO9),
 -- have n (K5); 17 where it met a chunk that is none of its level (R17, K13, K14)
@@ -41,14 +40,10 @@ answerOf book n (found c e) = Found (reportOf book c e) n
 answerOf book n absent = Absent n
 answerOf book n refused = refusal 17
 
--- a name that can be asked (R15)
-abbrev pub nameFits : List ℕ → Bool
-nameFits name = within 1 1024 (length name)
-
 -- the checks in their order (RO5): the name (R15), the number of the trail's places (R16), the record (R17, K12); then the descent
 unfoldable pub lookedUp : List ℕ → Record → List ℕ → ℕ → Answer
 lookedUp s book name places =
-    cond (nameFits name)
+    cond (askable name)
     (cond (leb 5 places)
     (cond (bookFits s book)
     (answerOf book (countIn s book name) (outcomeIn s book name))

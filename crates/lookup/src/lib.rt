@@ -5,11 +5,12 @@ ghost use Prim.Native.Nat.{_+_, _^_, _≤_, _<_};
 ghost use lib.ListN.{length, set};
 ghost use Rattle.directory.specs.Opened.{opened};
 ghost use Rattle.directory.specs.declared.Opened.the-variants.{Book};
-ghost use Rattle.lookup.specs.Lookup.{refusal, answerOf, isRefusal, unless, nameFits, lookedUp, trailAfter};
+ghost use Rattle.lookup.specs.Lookup.{refusal, answerOf, isRefusal, unless, lookedUp, trailAfter};
 ghost use Rattle.lookup.specs.Step.{wayAt, outcomeAt, Descended};
 ghost use Rattle.lookup.specs.Complete.{Complete};
 use book::Refusal;
 use book::Report;
+use book::Search;
 use chunk::Chunk;
 use header::Record;
 use seek::Hit;
@@ -32,24 +33,17 @@ enum Way {
 fn refused(number: u8) -> Answer
     ensures { λ r. ⌜ r ≡ refusal number ⌝ }
 {
-    Answer::Refused(Refusal {
-        number: number,
-        chunk: tree::no_chunk(),
-    })
+    Answer::Refused(book::refuse(number))
 }
 
 // What chunk c, which has to be a listing chunk, answers to a name; n is the count of the descent's chunks.
 fn ask_listing(file: &[u8], book: Record, name: &[u8], c: u64, n: u32) -> Answer
     ensures { λ r. ⌜ r ≡ answerOf book n (outcomeAt (now (file .entry)) book (now (name .entry)) 1 c) ⌝ }
 {
-    let Chunk::Listing(_, _) = book::met(file, book, c) else {
-        return refused(17);
-    };
-    let bytes = book::chunk_bytes(file, book, c);
-    let limits = book::limits(file, book);
-    match seek::find(bytes, limits, name) {
-        Hit::At(e) => Answer::Found(book::report_of(file, book, c, e), n),
-        Hit::Nothing => Answer::Absent(n),
+    match book::search_in(file, book, name, c) {
+        Search::Found(x) => Answer::Found(x, n),
+        Search::Next(_) => Answer::Absent(n),
+        Search::Barred => refused(17),
     }
 }
 
@@ -108,23 +102,13 @@ fn descend(
     }
 }
 
-// Whether a name can be asked.
-fn name_fits(name: &[u8]) -> bool
-    ensures { λ r. ⌜ r ≡ nameFits (now (name .entry)) ⌝ }
-{
-    if name.len() < 1 {
-        return false;
-    }
-    name.len() <= 1024
-}
-
 // The entry of a name, by the descent that the record tells of. Its chunks go to the front of the trail; a refusal leaves the trail as it was.
 pub fn lookup(file: &[u8], book: Record, name: &[u8], trail: &mut [u32]) -> Answer
     ensures answer { λ r. ⌜ r ≡ lookedUp (now (file .entry)) book (now (name .entry)) (length (now (trail .entry))) ⌝ }
     ensures places { λ _. ⌜ now (trail .exit) ≡ trailAfter (now (file .entry)) book (now (name .entry)) (now (trail .entry)) ⌝ }
     ensures complete { λ r. ⌜ (opened (now (file .entry)) ≡ Book book → 1 ≤ length (now (name .entry)) → length (now (name .entry)) ≤ 1024 → 5 ≤ length (now (trail .entry)) → Complete (now (file .entry)) book (now (name .entry)) (now (trail .entry)) r (now (trail .exit))) ⌝ }
 {
-    let good_name = name_fits(name);
+    let good_name = names::is_askable(name);
     let good_record = book::fits(file, book);
     if !good_name {
         return refused(15);

@@ -4,6 +4,7 @@ use Prim.Native.Nat.{ℕ, _+_}
 use mathlib.Core.Bool.{Bool, cond, _&&_}
 use mathlib.Core.List.{List}
 use lib.Dec.{leb}
+use lib.ListN.{length}
 use Rattle.names.specs.Order.{isLess, isEqual, byNumber, byElement}
 use Rattle.names.specs.declared.Order.{Order}
 
@@ -22,3 +23,7 @@ below a b = isLess (compared a b)
 -- a compares equal to b
 unfoldable pub matches : List ℕ → List ℕ → Bool
 matches a b = isEqual (compared a b)
+
+-- a name that can be asked: 1 to 1,024 bytes (R15)
+abbrev pub askable : List ℕ → Bool
+askable name = leb 1 (length name) && leb (length name) 1024

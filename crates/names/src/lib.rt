@@ -2,7 +2,7 @@
 ghost use mathlib.Core.Path.{_≡_};
 ghost use Prim.Native.Nat.{_+_, _≤_};
 ghost use lib.ListN.{length};
-ghost use Rattle.names.specs.Names.{folded, compared, below, matches};
+ghost use Rattle.names.specs.Names.{folded, compared, below, matches, askable};
 ghost use Rattle.names.specs.Common.{Passed, Common};
 
 // How one name stands to another.
@@ -129,4 +129,14 @@ pub fn is_match(a: &[u8], b: &[u8]) -> bool
         Order::Equal => true,
         Order::Greater => false,
     }
+}
+
+// Whether a name can be asked.
+pub fn is_askable(name: &[u8]) -> bool
+    ensures { λ r. ⌜ r ≡ askable (now (name .entry)) ⌝ }
+{
+    if name.len() < 1 {
+        return false;
+    }
+    name.len() <= 1024
 }

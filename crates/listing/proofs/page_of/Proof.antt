@@ -5,10 +5,9 @@ use native.Mathlib.Omega.{arith}
 use denote.Ref.{now}
 use Rattle.fields.proofs.Tests.{held, failed}
 use Rattle.chunk.specs.Chunk.{countOf}
-use Rattle.tree.specs.Shape.{isListing, nextOf, listingChunk}
-use Rattle.book.specs.Book.{chunkBytes, directoryOf, shapeOf, bookFits}
+use Rattle.book.specs.Book.{chunkBytes, bookFits}
 use Rattle.listing.specs.declared.Page.the-variants.{Refused}
-use Rattle.listing.proofs.Led.{met-listing, met-index, met-refused}
+use Rattle.book.proofs.Meeting.{Linked, met-listing, met-index, met-refused}
 use Rattle.listing.proofs.Paging.{page-unfit, page-other, page-short, page-done}
 use Rattle.listing.proofs.page_of.Statement.{statement}
 use Rattle.listing.proofs.page_of.Tie as tie
@@ -18,9 +17,7 @@ fits-is c = held (c .before .fits2 .ensures) (c .if1 .left)
 
 -- the chunk that was met is a listing chunk, with the next that the code has
 met-is : (c : tie.After-known-told) → let a = c .before .before .before .before .before .before .before .before .args in
-    (listingChunk (directoryOf (now (a .file)) (a .book)) (shapeOf (a .book)) (a .chunk) ≡ true)
-    × (isListing (directoryOf (now (a .file)) (a .book) (a .chunk)) ≡ true)
-    × (nextOf (directoryOf (now (a .file)) (a .book) (a .chunk)) ≡ c .before .next .given .0 .1 .0)
+    Linked (now (a .file)) (a .book) (a .chunk) (c .before .next .given .0 .0) (c .before .next .given .0 .1 .0)
 met-is c = met-listing _ _ _ _ _ (sym (c .before .before .before .met .ensures) ∙ c .before .next .given .1)
 
 count-is : (c : tie.After-le16) → let a = c .before .before .before .before .before .before .before .before .before .before .args in
@@ -30,14 +27,14 @@ count-is c = rw (← c .before .chunk-bytes .ensures) (c .le16 .ensures)
 fits-requires : tie.Need-fits-requires
 fits-requires c κs = search needs
 
-no-listing-requires : tie.Need-no-listing-requires
-no-listing-requires c κs = search needs
+refuse-requires : tie.Need-refuse-requires
+refuse-requires c κs = search needs
 
 returns : tie.Need-returns
 returns c =
     let a = c .before .before .before .before .before .args in
     let r = page-unfit (now (a .file)) (a .book) (a .chunk) (now (a .out)) (failed (c .before .before .fits2 .ensures) (c .before .if1 .taken)) in
-    (ap Refused (c .no-listing .ensures) ∙ r .0, r .1)
+    (ap Refused (c .refuse .ensures) ∙ r .0, r .1)
 
 met-requires : tie.Need-met-requires
 met-requires c κs = search needs
@@ -48,8 +45,8 @@ enum-known-next c = search needs
 enum-told : tie.Need-enum-told
 enum-told c = search needs
 
-no-listing-requires-2 : tie.Need-no-listing-requires-2
-no-listing-requires-2 c κs = search needs
+refuse-requires-2 : tie.Need-refuse-requires-2
+refuse-requires-2 c κs = search needs
 
 returns-2 : tie.Need-returns-2
 returns-2 c =
@@ -57,13 +54,13 @@ returns-2 c =
     let a = m .before .before .before .before .before .args in
     let o = met-index (now (a .file)) (a .book) (a .chunk) (sym (m .met .ensures) ∙ c .before .enum-told .given .1) in
     let r = page-other (now (a .file)) (a .book) (a .chunk) (now (a .out)) (fits-is (m .before)) o in
-    (ap Refused (c .no-listing2 .ensures) ∙ r .0, r .1)
+    (ap Refused (c .refuse2 .ensures) ∙ r .0, r .1)
 
 enum-told-2 : tie.Need-enum-told-2
 enum-told-2 c = search needs
 
-no-listing-requires-3 : tie.Need-no-listing-requires-3
-no-listing-requires-3 c κs = search needs
+refuse-requires-3 : tie.Need-refuse-requires-3
+refuse-requires-3 c κs = search needs
 
 returns-3 : tie.Need-returns-3
 returns-3 c =
@@ -71,7 +68,7 @@ returns-3 c =
     let a = m .before .before .before .before .before .args in
     let o = met-refused (now (a .file)) (a .book) (a .chunk) _ (sym (m .met .ensures) ∙ c .before .enum-told2 .given .1) in
     let r = page-other (now (a .file)) (a .book) (a .chunk) (now (a .out)) (fits-is (m .before)) o in
-    (ap Refused (c .no-listing3 .ensures) ∙ r .0, r .1)
+    (ap Refused (c .refuse3 .ensures) ∙ r .0, r .1)
 
 chunk-bytes-requires : tie.Need-chunk-bytes-requires
 chunk-bytes-requires c κs = search needs
@@ -94,13 +91,13 @@ returns-4 c =
     let k = l .before .before in
     let e = k .before .before .before .before in
     let a = e .before .before .before .before .args in
-    page-short (now (a .file)) (a .book) (a .chunk) (now (a .out)) (fits-is e) (met-is k .0) (l .le16 .result) (count-is l) (c .if2 .taken)
+    page-short (now (a .file)) (a .book) (a .chunk) (now (a .out)) (fits-is e) (met-is k .below) (l .le16 .result) (count-is l) (c .if2 .taken)
 
 put-entries-requires : tie.Need-put-entries-requires
 put-entries-requires c κs =
     let l = c .before .before in
     let n = count-is l in
-    (met-is (l .before .before) .1, omega arith)
+    (met-is (l .before .before) .kind, omega arith)
 
 same-length : tie.Need-same-length
 same-length c = search needs
@@ -111,23 +108,23 @@ returns-5 c =
     let k = l .before .before in
     let e = k .before .before .before .before in
     let a = e .before .before .before .before .args in
-    page-done (now (a .file)) (a .book) (a .chunk) (now (a .out)) (fits-is e) (met-is k .0) (l .le16 .result) (count-is l)
-    (c .before .before .before .before .if2 .left) _ (met-is k .2) _ (c .before .before .put-entries .ensures)
+    page-done (now (a .file)) (a .book) (a .chunk) (now (a .out)) (fits-is e) (met-is k .below) (l .le16 .result) (count-is l)
+    (c .before .before .before .before .if2 .left) _ (met-is k .next-is) _ (c .before .before .put-entries .ensures)
 
 pub page-of-spec : {M : Type 1} → statement M
 page-of-spec =
     tie.close
     (tie.spec
     fits-requires
-    no-listing-requires
+    refuse-requires
     returns
     met-requires
     enum-known-next
     enum-told
-    no-listing-requires-2
+    refuse-requires-2
     returns-2
     enum-told-2
-    no-listing-requires-3
+    refuse-requires-3
     returns-3
     chunk-bytes-requires
     le16-requires

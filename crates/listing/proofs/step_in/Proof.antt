@@ -42,15 +42,15 @@ enum-known-e c = search needs
 enum-told : tie.Need-enum-told
 enum-told c = search needs
 
-no-listing-requires : tie.Need-no-listing-requires
-no-listing-requires c κs = search needs
+refuse-requires : tie.Need-refuse-requires
+refuse-requires c κs = search needs
 
 returns : tie.Need-returns
 returns c =
     let s = c .before .before .before in
     let b = s .before .before .before .before in
     let a = b .args in
-    ap Refused (c .no-listing .ensures)
+    ap Refused (c .refuse .ensures)
     ∙ sym (read-absent (now (a .file)) (a .book) (a .at) (b .pre .0) (sym (sought-is s) ∙ c .before .enum-told .given .1))
 
 report-of-requires : tie.Need-report-of-requires
@@ -96,7 +96,7 @@ step-in-spec =
     nth-entry-requires
     enum-known-e
     enum-told
-    no-listing-requires
+    refuse-requires
     returns
     report-of-requires
     le16-requires

@@ -5,7 +5,7 @@ use borrow.Author.Needs.{needs}
 use Rattle.seek.specs.Seek.{chooseIn}
 use Rattle.tree.specs.Shape.{indexChunk}
 use Rattle.book.specs.Book.{limitsOf, chunkBytes, directoryOf, shapeOf}
-use Rattle.lookup.proofs.Meeting.{isOf, met-index, not-index}
+use Rattle.book.proofs.Meeting.{isOf, index-is, not-index}
 use Rattle.lookup.proofs.Steps.{index-barred, index-down, index-ends}
 use Rattle.lookup.proofs.ask_index.Statement.{statement}
 use Rattle.lookup.proofs.ask_index.Tie as tie
@@ -16,7 +16,7 @@ is-index : (c : tie.After-enum-told)
 is-index c =
     let m = c .before .before in
     let a = m .before .before .before .args in
-    met-index (now (a .file)) (a .book) (a .c) ∙ ap (isOf false) (sym (m .met .ensures) ∙ c .enum-told .given .1)
+    index-is (now (a .file)) (a .book) (a .c) ∙ ap (isOf false) (sym (m .met .ensures) ∙ c .enum-told .given .1)
 
 -- what the search chooses
 chosen-is : (c : tie.After-choose)
@@ -36,7 +36,7 @@ returns c =
     let a = m .before .before .before .args in
     let s = now (a .file) in
     index-barred s (a .book) (now (a .name)) (a .c)
-    (met-index s (a .book) (a .c) ∙ (ap (isOf false) (sym (m .met .ensures)) ∙ not-index (m .met .result) (c .match .keys2)))
+    (index-is s (a .book) (a .c) ∙ (ap (isOf false) (sym (m .met .ensures)) ∙ not-index (m .met .result) (c .match .keys2)))
 
 chunk-bytes-requires : tie.Need-chunk-bytes-requires
 chunk-bytes-requires c κs = search needs

@@ -6,8 +6,8 @@ use Rattle.lookup.proofs.Promised.{fits-told, name-bad, trail-short, re
 use Rattle.lookup.proofs.lookup.Statement.{statement}
 use Rattle.lookup.proofs.lookup.Tie as tie
 
-name-fits-requires : tie.Need-name-fits-requires
-name-fits-requires c κs = search needs
+is-askable-requires : tie.Need-is-askable-requires
+is-askable-requires c κs = search needs
 
 fits-requires : tie.Need-fits-requires
 fits-requires c κs = search needs
@@ -19,7 +19,7 @@ returns : tie.Need-returns
 returns c =
     let f = c .before .before in
     let a = f .before .before .before .before .before .args in
-    name-bad (now (a .file)) (a .book) (now (a .name)) (now (a .trail)) (c .refused .result) (failed (f .before .name-fits .ensures) (c .before .if1 .taken)) (c .refused .ensures)
+    name-bad (now (a .file)) (a .book) (now (a .name)) (now (a .trail)) (c .refused .result) (failed (f .before .is-askable .ensures) (c .before .if1 .taken)) (c .refused .ensures)
 
 refused-requires-2 : tie.Need-refused-requires-2
 refused-requires-2 c κs = search needs
@@ -29,7 +29,7 @@ returns-2 c =
     let e = c .before .before in
     let f = e .before in
     let a = f .before .before .before .before .before .args in
-    trail-short (now (a .file)) (a .book) (now (a .name)) (now (a .trail)) (held (f .before .name-fits .ensures) (e .if1 .left)) (c .refused2 .result) (omega arith) (c .refused2 .ensures)
+    trail-short (now (a .file)) (a .book) (now (a .name)) (now (a .trail)) (held (f .before .is-askable .ensures) (e .if1 .left)) (c .refused2 .result) (omega arith) (c .refused2 .ensures)
 
 refused-requires-3 : tie.Need-refused-requires-3
 refused-requires-3 c κs = search needs
@@ -39,7 +39,7 @@ returns-3 c =
     let e = c .before .before in
     let f = e .before .before in
     let a = f .before .before .before .before .before .args in
-    record-bad (now (a .file)) (a .book) (now (a .name)) (now (a .trail)) (held (f .before .name-fits .ensures) (e .before .if1 .left)) (omega arith) (c .refused3 .result)
+    record-bad (now (a .file)) (a .book) (now (a .name)) (now (a .trail)) (held (f .before .is-askable .ensures) (e .before .if1 .left)) (omega arith) (c .refused3 .result)
     (failed (f .fits2 .ensures) (c .before .if3 .taken)) (c .refused3 .ensures)
 
 top-chunk-requires : tie.Need-top-chunk-requires
@@ -63,14 +63,14 @@ returns-4 c =
     let e = t .before in
     let f = e .before .before .before in
     let a = f .before .before .before .before .before .args in
-    descended (now (a .file)) (a .book) (now (a .name)) (now (a .trail)) (held (f .before .name-fits .ensures) (e .before .before .if1 .left)) (omega arith) (d .descend .result) (d .descend .last .1 .1 .1 .1 .1 .0)
+    descended (now (a .file)) (a .book) (now (a .name)) (now (a .trail)) (held (f .before .is-askable .ensures) (e .before .before .if1 .left)) (omega arith) (d .descend .result) (d .descend .last .1 .1 .1 .1 .1 .0)
     (held (f .fits2 .ensures) (e .if3 .left)) (rw (← t .top-chunk .ensures) (d .descend .ensures))
 
 pub lookup-spec : {M : Type 1} → statement M
 lookup-spec =
     tie.close
     (tie.spec
-    name-fits-requires
+    is-askable-requires
     fits-requires
     refused-requires
     returns

@@ -6,7 +6,7 @@ use Rattle.fields.proofs.Tests.{held, failed}
 use Rattle.chunk.specs.declared.Chunk.the-variants.{Listing}
 use Rattle.book.specs.Book.{bookFits, metChunk}
 use Rattle.listing.specs.declared.Step.the-variants.{Refused}
-use Rattle.listing.proofs.Led.{met-listing, met-index, met-refused}
+use Rattle.book.proofs.Meeting.{met-listing, met-index, met-refused}
 use Rattle.listing.proofs.Stepping.{step-unfit, step-end, step-other, step-entry}
 use Rattle.listing.proofs.Cursor.step.Statement.{statement}
 use Rattle.listing.proofs.Cursor.step.Tie as tie
@@ -21,13 +21,13 @@ met-is c = sym (c .before .before .before .met .ensures) ∙ c .before .next .gi
 fits-requires : tie.Need-fits-requires
 fits-requires c κs = search needs
 
-no-listing-requires : tie.Need-no-listing-requires
-no-listing-requires c κs = search needs
+refuse-requires : tie.Need-refuse-requires
+refuse-requires c κs = search needs
 
 returns : tie.Need-returns
 returns c =
     let a = c .before .before .before .before .args in
-    ap Refused (c .no-listing .ensures) ∙ sym (step-unfit (now (a .file)) (a .book) (a .self) (failed (c .before .before .fits2 .ensures) (c .before .if1 .taken)))
+    ap Refused (c .refuse .ensures) ∙ sym (step-unfit (now (a .file)) (a .book) (a .self) (failed (c .before .before .fits2 .ensures) (c .before .if1 .taken)))
 
 returns-2 : tie.Need-returns-2
 returns-2 c =
@@ -44,32 +44,32 @@ step-in-requires : tie.Need-step-in-requires
 step-in-requires c κs =
     let a = c .before .before .before .before .before .before .before .before .before .args in
     let m = met-listing (now (a .file)) (a .book) (a .self .chunk) _ _ (met-is c) in
-    (m .1, m .2)
+    (m .kind, m .next-is)
 
 enum-told : tie.Need-enum-told
 enum-told c = search needs
 
-no-listing-requires-2 : tie.Need-no-listing-requires-2
-no-listing-requires-2 c κs = search needs
+refuse-requires-2 : tie.Need-refuse-requires-2
+refuse-requires-2 c κs = search needs
 
 enum-told-2 : tie.Need-enum-told-2
 enum-told-2 c = search needs
 
-no-listing-requires-3 : tie.Need-no-listing-requires-3
-no-listing-requires-3 c κs = search needs
+refuse-requires-3 : tie.Need-refuse-requires-3
+refuse-requires-3 c κs = search needs
 
 returns-3 : tie.Need-returns-3
 returns-3 c =
     let a = c .before .before .before .before .before .before .before .before .before .before .args in
     let e = c .before .before .before .before .before in
     let m = met-listing (now (a .file)) (a .book) (a .self .chunk) _ _ (met-is (c .before)) in
-    c .step-in .ensures ∙ sym (step-entry (now (a .file)) (a .book) (a .self) (fits-is (e .before .before)) (e .if2 .left) (m .0))
+    c .step-in .ensures ∙ sym (step-entry (now (a .file)) (a .book) (a .self) (fits-is (e .before .before)) (e .if2 .left) (m .below))
 
 returns-4 : tie.Need-returns-4
 returns-4 c =
     let a = c .before .before .before .before .before .before .before .before .before .args in
     let e = c .before .before .before .before in
-    ap Refused (c .no-listing2 .ensures)
+    ap Refused (c .refuse2 .ensures)
     ∙ sym (step-other (now (a .file)) (a .book) (a .self) (fits-is (e .before .before)) (e .if2 .left)
     (met-index (now (a .file)) (a .book) (a .self .chunk) (sym (c .before .before .before .met .ensures) ∙ c .before .enum-told .given .1)))
 
@@ -77,7 +77,7 @@ returns-5 : tie.Need-returns-5
 returns-5 c =
     let a = c .before .before .before .before .before .before .before .before .before .args in
     let e = c .before .before .before .before in
-    ap Refused (c .no-listing3 .ensures)
+    ap Refused (c .refuse3 .ensures)
     ∙ sym (step-other (now (a .file)) (a .book) (a .self) (fits-is (e .before .before)) (e .if2 .left)
     (met-refused (now (a .file)) (a .book) (a .self .chunk) _ (sym (c .before .before .before .met .ensures) ∙ c .before .enum-told2 .given .1)))
 
@@ -86,16 +86,16 @@ step-spec =
     tie.close
     (tie.spec
     fits-requires
-    no-listing-requires
+    refuse-requires
     returns
     returns-2
     met-requires
     enum-known-next
     step-in-requires
     enum-told
-    no-listing-requires-2
+    refuse-requires-2
     enum-told-2
-    no-listing-requires-3
+    refuse-requires-3
     returns-3
     returns-4
     returns-5)
