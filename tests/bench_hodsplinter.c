@@ -65,6 +65,13 @@ void measure_find_miss(void) {
         if (hods_lookup(book, book_len, record, (const uint8_t *)missing[i].text, missing[i].len, trail, 5, answer) != 255) fail("found");
 }
 
+/* One name that is not there, along the whole chain. */
+void measure_scan(void) {
+    uint64_t answer[5];
+    const struct name *n = missing + missing_count / 2;
+    if (hods_scan(book, book_len, record, (const uint8_t *)n->text, n->len, answer) != 255) fail("found");
+}
+
 /* Of each entry: its length, its offset and the last byte of its name. */
 void measure_list(void) {
     uint64_t next[2], sum = 0;
@@ -83,8 +90,8 @@ void measure_write(void) {
 }
 
 int main(int argc, char **argv) {
-    static const struct measure all[] = {{"open", measure_open},           {"open_path", measure_open_path}, {"find_hit", measure_find_hit},
-                                         {"find_miss", measure_find_miss}, {"list", measure_list},           {"write", measure_write}};
+    static const struct measure all[] = {{"open", measure_open}, {"open_path", measure_open_path}, {"find_hit", measure_find_hit}, {"find_miss", measure_find_miss},
+                                         {"scan", measure_scan}, {"list", measure_list},           {"write", measure_write}};
     int status = measured(argc, argv, "hodsplinter", all, sizeof all / sizeof *all, ready);
     /* the books for measuring have the head that the writer makes */
     if (argc == 3 && memcmp(head, book, head_len)) fail("the head that was written is not the book's");

@@ -1,6 +1,7 @@
 /* Asks the library what its standard input says, a line a question, and answers a line each: driver FILE.
      o                               open: the code, and the record for 0
      l RECORD PLACES HEXNAME         lookup with a record and a trail of so many places, all 77 before: the code, six numbers all 88 before, the trail
+     c RECORD HEXNAME                scan with a record: the code, five numbers all 88 before
      s RECORD CHUNK ENTRY            step: the code, the cursor, five numbers all 88 before
      p RECORD CHUNK NUMBERS          page into so many numbers, all 77 before: the code, two numbers all 88 before, a sum over the numbers
      b PLACE LENGTH                  part: its length
@@ -52,6 +53,14 @@ static void ask_lookup(void) {
     for (size_t i = 0; i < places; i++) printf(" %" PRIu32, trail[i]);
 }
 
+static void ask_scan(void) {
+    static uint8_t name[4096];
+    uint64_t answer[5] = {88, 88, 88, 88, 88};
+    size_t n = name_in(name);
+    printf("%" PRIu64, hods_scan(file, len, record, name, n, answer));
+    show(answer, 5);
+}
+
 static void ask_step(void) {
     uint64_t cursor[2], entry[5] = {88, 88, 88, 88, 88};
     cursor[0] = number();
@@ -87,10 +96,11 @@ int main(int argc, char **argv) {
     if (!file || fread(file, 1, len, f) != len) return 2;
     while (fgets(line, sizeof line, stdin)) {
         rest = line + 1;
-        if (line[0] == 'l' || line[0] == 's' || line[0] == 'p')
+        if (line[0] == 'l' || line[0] == 'c' || line[0] == 's' || line[0] == 'p')
             for (int i = 0; i < HODS_RECORD; i++) record[i] = number();
         if (line[0] == 'o') ask_open();
         if (line[0] == 'l') ask_lookup();
+        if (line[0] == 'c') ask_scan();
         if (line[0] == 's') ask_step();
         if (line[0] == 'p') ask_page();
         if (line[0] == 'b') ask_part();

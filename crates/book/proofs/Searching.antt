@@ -19,7 +19,6 @@ use Rattle.tree.specs.Descent.{childFor}
 use Rattle.tree.proofs.Chunks.{listing-chunk, index-chunk}
 use Rattle.book.specs.Book.{limitsOf, chunkBytes, directoryOf, shapeOf, reportOf, reportAt}
 use Rattle.book.specs.Search.{searchOf, searchIn}
-use Rattle.book.specs.declared.Report.{Report}
 use Rattle.book.specs.declared.Search.{Search}
 use Rattle.book.specs.declared.Search.the-variants.{Found, Next, Barred}
 use Rattle.book.proofs.Laws.{chunk-whole, report-entry}

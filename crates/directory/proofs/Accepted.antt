@@ -60,7 +60,7 @@ pub record OpenedBook (s : List ℕ) (r : Record) : Type 0 where
   pub directory : GoodDirectory (directoryOf s r) (shapeOf r)
   pub fits : bookFits s r ≡ true
 
-head-fits : (s : List ℕ) (r : Record) → headOf s ≡ Good r → bookFits s r ≡ true
+pub head-fits : (s : List ℕ) (r : Record) → headOf s ≡ Good r → bookFits s r ≡ true
 unfolding bookFits
 head-fits s r e =
     let a = accepted s r e in

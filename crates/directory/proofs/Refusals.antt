@@ -17,12 +17,13 @@ use Rattle.header.specs.declared.Record.{Record}
 use Rattle.header.specs.declared.Head.{Head}
 use Rattle.header.specs.declared.Head.the-variants.{Good}
 use Rattle.header.proofs.Checks.{head-refused}
+use Rattle.tree.specs.Shape.{noChunk}
 use Rattle.tree.specs.Chain.{chainOk}
 use Rattle.tree.specs.Tree.{treeOk}
-use Rattle.book.specs.Book.{limitsOf, chunkBytes, directoryOf, shapeOf}
+use Rattle.book.specs.Book.{limitsOf, chunkBytes, directoryOf, shapeOf, refusalOf}
 use Rattle.book.specs.declared.Refusal.{Refusal}
 use Rattle.directory.specs.Opened.{refusal, refusalAt, chunksThen, linkedBook, withHead, opened}
-use Rattle.directory.specs.Refusals.{Told, head, chunk, links}
+use Rattle.directory.specs.Refusals.{ChunksGood, Told, head, chunk, chain, tree}
 use Rattle.directory.specs.declared.Opened.{Opened}
 use Rattle.directory.specs.declared.Opened.the-variants.{Book, Refused}
 
@@ -80,17 +81,17 @@ chunk-table s r c = fault-table (limitsOf s r) (chunkBytes s r c)
 data Passing (D : ℕ → Parsed) (n c : ℕ) (x : Refusal) (o : Opened) : Type 0 where
   stops : c ≤ x .chunk → x .chunk < c + n → faultOf (D (x .chunk)) ≡ x .number → (x .number ≡ 0 → ⊥) → ((i : ℕ) → c ≤ i → i < x .chunk → faultOf (D i) ≡ 0)
       → Passing D n c x o
-  follows : o ≡ Refused x → Passing D n c x o
+  follows : o ≡ Refused x → ((i : ℕ) → c ≤ i → i < c + n → faultOf (D i) ≡ 0) → Passing D n c x o
 
 passing : (D : ℕ → Parsed) (n c : ℕ) (x : Refusal) (o : Opened) → chunksThen D n c o ≡ Refused x → Passing D n c x o
 unfolding chunksThen
-passing D zero c x o e = follows e
+passing D zero c x o e = follows e (λ i l h. absurd (omega arith))
 passing D (suc n) c x o e = go (eqb (faultOf (D c)) 0) refl (passing D n (c + 1) x o) e
   where
     later : faultOf (D c) ≡ 0 → Passing D n (c + 1) x o → Passing D (suc n) c x o
     later f (stops a b q z g) =
         stops (omega arith) (omega arith) q z (λ i l h. elim (ℕ-discrete i c) [ yes y ↦ rw y f | no y ↦ g i (omega arith) h ])
-    later f (follows q) = follows q
+    later f (follows q g) = follows q (λ i l h. elim (ℕ-discrete i c) [ yes y ↦ rw y f | no y ↦ g i (omega arith) (omega arith) ])
 
     go : (t : Bool) → eqb (faultOf (D c)) 0 ≡ t → (chunksThen D n (c + 1) o ≡ Refused x → Passing D n (c + 1) x o)
         → cond t (chunksThen D n (c + 1) o) (refusalAt (faultOf (D c)) c) ≡ Refused x → Passing D (suc n) c x o
@@ -103,20 +104,18 @@ passing D (suc n) c x o e = go (eqb (faultOf (D c)) 0) refl (passing D n (c + 1)
 
 -- ---- the whole
 
-links-told : (s : List ℕ) (r : Record) (x : Refusal) → linkedBook s r ≡ Refused x → Told s x
+links-told : (s : List ℕ) (r : Record) (x : Refusal) → F.headOf s ≡ Good r → ChunksGood s r → linkedBook s r ≡ Refused x → Told s x
 unfolding linkedBook
-links-told s r x = go (chainOk (directoryOf s r) (shapeOf r)) (treeOk (directoryOf s r) (shapeOf r))
+links-told s r x h g = go (chainOk (directoryOf s r) (shapeOf r)) refl (treeOk (directoryOf s r) (shapeOf r)) refl
   where
-    told : (n : ℕ) → 13 ≤ n → n ≤ 14 → refusal n ≡ Refused x → Told s x
-    told n l h q =
-        let y : record { number = n; chunk = 0xFFFFFFFF } ≡ x = cc in
-        let a : n ≡ x .number = ap (λ (w : Refusal). w .number) y in
-        links (omega arith) (omega arith) (sym (ap (λ (w : Refusal). w .chunk) y))
+    number-is : (n : ℕ) → refusal n ≡ Refused x → (x .number ≡ n) × (x .chunk ≡ noChunk)
+    number-is n q = let y : refusalOf n ≡ x = cc in (sym (ap (λ (w : Refusal). w .number) y), sym (ap (λ (w : Refusal). w .chunk) y))
 
-    go : (a b : Bool) → cond a (cond b (Book r) (refusal 14)) (refusal 13) ≡ Refused x → Told s x
-    go true true q = absurd (let z : _≡_ {A = ℕ} 0 1 = cc in omega arith)
-    go true false q = told 14 (omega arith) (omega arith) q
-    go false b q = told 13 (omega arith) (omega arith) q
+    go : (a : Bool) → chainOk (directoryOf s r) (shapeOf r) ≡ a → (b : Bool) → treeOk (directoryOf s r) (shapeOf r) ≡ b
+        → cond a (cond b (Book r) (refusal 14)) (refusal 13) ≡ Refused x → Told s x
+    go true p true t q = absurd (let z : _≡_ {A = ℕ} 0 1 = cc in omega arith)
+    go true p false t q = let n = number-is 14 q in tree r h g p t (n .0) (n .1)
+    go false p b t q = let n = number-is 13 q in chain r h g p (n .0) (n .1)
 
 pub refusal-told : (s : List ℕ) (x : Refusal) → opened s ≡ Refused x → Told s x
 unfolding opened
@@ -126,7 +125,7 @@ refusal-told s x e = go (F.headOf s) refl e
     passed r h (stops a b q z g) =
         let t = chunk-table s r (x .chunk) (λ y. z (sym q ∙ y)) in
         chunk r h (omega arith) q (λ c l. g c (omega arith) l) (omega arith) (omega arith)
-    passed r h (follows q) = links-told s r x q
+    passed r h (follows q g) = links-told s r x h (λ c l. g c (omega arith) (omega arith)) q
 
     go : (y : Head) → F.headOf s ≡ y → withHead y (λ r. chunksThen (directoryOf s r) (r .count) 0 (linkedBook s r)) ≡ Refused x → Told s x
     go (Good r) h q = passed r h (passing (directoryOf s r) (r .count) 0 x (linkedBook s r) q)

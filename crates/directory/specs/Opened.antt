@@ -9,16 +9,15 @@ use Rattle.header.specs.Header.{headOf}
 use Rattle.header.specs.declared.Record.{Record}
 use Rattle.header.specs.declared.Head.{Head}
 use Rattle.header.specs.declared.Head.the-variants.{Good}
-use Rattle.tree.specs.Shape.{noChunk}
 use Rattle.tree.specs.Chain.{chainOk}
 use Rattle.tree.specs.Tree.{treeOk}
-use Rattle.book.specs.Book.{directoryOf, shapeOf}
+use Rattle.book.specs.Book.{directoryOf, shapeOf, refusalOf}
 use Rattle.directory.specs.declared.Opened.{Opened}
 use Rattle.directory.specs.declared.Opened.the-variants.{Book, Refused}
 
 -- a refusal that belongs to no chunk, and one of chunk c (RO7)
 abbrev pub refusal : ℕ → Opened
-refusal n = Refused (record { number = n; chunk = noChunk })
+refusal n = Refused (refusalOf n)
 
 abbrev pub refusalAt : ℕ → ℕ → Opened
 refusalAt n c = Refused (record { number = n; chunk = c })

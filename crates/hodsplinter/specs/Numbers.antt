@@ -10,6 +10,7 @@ use Rattle.directory.specs.declared.Opened.{Opened}
 use Rattle.directory.specs.declared.Opened.the-variants.{Book}
 use Rattle.lookup.specs.declared.Answer.{Answer}
 use Rattle.lookup.specs.declared.Answer.the-variants.{Found, Absent}
+use Rattle.lookup.specs.declared.Reply.{Reply}
 use Rattle.listing.specs.Listing.{fiveOf}
 use Rattle.listing.specs.declared.Cursor.{Cursor}
 use Rattle.listing.specs.declared.Step.{Step}
@@ -67,6 +68,18 @@ abbrev pub lookupNumbers : Answer → List ℕ → List ℕ
 lookupNumbers (Found x n) was = n ∷ fiveOf x
 lookupNumbers (Absent n) was = set was 0 n
 lookupNumbers (Answer.Refused x) was = was
+
+-- ---- a search that leaves no trail: 0 and five numbers; 255, or the refusal, with nothing changed
+
+abbrev pub replyCode : Reply → ℕ
+replyCode (Reply.Found x) = 0
+replyCode Reply.Absent = 255
+replyCode (Reply.Refused x) = refusalCode x
+
+abbrev pub replyNumbers : Reply → List ℕ → List ℕ
+replyNumbers (Reply.Found x) was = fiveOf x
+replyNumbers Reply.Absent was = was
+replyNumbers (Reply.Refused x) was = was
 
 -- ---- a page: 0 and its count and next chunk, 255 where the slice is too short, or the refusal with nothing changed
 

@@ -1,10 +1,13 @@
 // The library for C: numbers and byte slices. A record is its numbers in the order of its fields; a refusal is its number plus 256 times its place.
 ghost use mathlib.Core.Path.{_≡_};
+ghost use Prim.Native.Nat.{ℕ, _≤_};
 ghost use lib.ListN.{length};
 ghost use Rattle.lookup.specs.Lookup.{lookedUp, trailAfter};
 ghost use Rattle.listing.specs.Listing.{startOf, stepped, pageOf, pageIn};
+ghost use Rattle.scan.specs.Scan.{scanned};
 ghost use Rattle.directory.specs.Opened.{opened};
-ghost use Rattle.hodsplinter.specs.Numbers.{recordIn, numbersOf, refusalCode, openCode, openRecord, lookupCode, lookupNumbers, cursorOf, cursorNumbers, stepCode, stepCursor, stepNumbers, pageCode, pageNumbers, partLength, writeCode, writeNumbers};
+ghost use Rattle.directory.specs.declared.Opened.the-variants.{Book};
+ghost use Rattle.hodsplinter.specs.Numbers.{recordIn, numbersOf, refusalCode, openCode, openRecord, lookupCode, lookupNumbers, replyCode, replyNumbers, cursorOf, cursorNumbers, stepCode, stepCursor, stepNumbers, pageCode, pageNumbers, partLength, writeCode, writeNumbers};
 ghost use Rattle.layout.specs.Layout.{layoutFor, headBytes};
 ghost use Rattle.head.specs.Head.{written, outputFor};
 use book::Refusal;
@@ -15,6 +18,7 @@ use listing::Cursor;
 use listing::Page;
 use listing::Step;
 use lookup::Answer;
+use lookup::Reply;
 
 // The numbers of a record; `HODS_RECORD` in include/hodsplinter.h is how many there are.
 type Numbers = [u64; 11];
@@ -103,6 +107,29 @@ pub extern "C" fn hods_lookup(
             255
         }
         Answer::Refused(r) => code(r),
+    }
+}
+
+// Looks a name up along the chain alone: 0 found (name's place, name's length, section, offset, length); 255 absent, or the refusal, with nothing changed.
+// On a book that opens, with its record, the number is that of lookup.
+#[no_mangle]
+pub extern "C" fn hods_scan(
+    file: &[u8],
+    record: &Numbers,
+    name: &[u8],
+    answer: &mut [u64; 5],
+) -> u64
+    ensures answer { λ r. ⌜ r ≡ replyCode (scanned (now (file .entry)) (recordIn (now («record» .entry))) (now (name .entry))) ⌝ }
+    ensures numbers { λ _. ⌜ now (answer .exit) ≡ replyNumbers (scanned (now (file .entry)) (recordIn (now («record» .entry))) (now (name .entry))) (now (answer .entry)) ⌝ }
+    ensures agrees { λ r. ⌜ (opened (now (file .entry)) ≡ Book (recordIn (now («record» .entry))) → (places : ℕ) → 5 ≤ places → r ≡ lookupCode (lookedUp (now (file .entry)) (recordIn (now («record» .entry))) (now (name .entry)) places)) ⌝ }
+{
+    match scan::scan(file, record_in(record), name) {
+        Reply::Found(x) => {
+            *answer = [x.place, x.length, x.section, x.offset, x.size];
+            0
+        }
+        Reply::Absent => 255,
+        Reply::Refused(r) => code(r),
     }
 }
 

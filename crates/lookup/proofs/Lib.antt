@@ -4,3 +4,4 @@ pub mod Descending
 pub mod Complete
 pub mod Promised
 pub mod Refusals
+pub mod Replies

@@ -1,3 +1,4 @@
 pub mod Lookup
 pub mod Step
 pub mod Complete
+pub mod Reply

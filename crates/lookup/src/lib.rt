@@ -22,6 +22,13 @@ pub enum Answer {
     Refused(Refusal),
 }
 
+// The same without the count, for a search that leaves no trail.
+pub enum Reply {
+    Found(Report),
+    Absent,
+    Refused(Refusal),
+}
+
 // Where an index chunk leads a descent: down to a chunk, or nowhere; `Barred` where it is no index chunk.
 enum Way {
     Down(u64),

@@ -14,3 +14,4 @@ pub mod Once
 pub mod Walked
 pub mod Steps
 pub mod Examples
+pub mod Reading

@@ -2,7 +2,7 @@
 -- Of the chunks it asks only that listing chunks are filled.
 -- Assumes nothing.
 use mathlib.Core.Path.{_≡_, refl, sym, _∙_}
-use mathlib.Core.Logic.{inl, inr}
+use mathlib.Core.Logic.{_↔_, inl, inr}
 use mathlib.Core.Bool.{true, false, cond, not, _&&_, _||_}
 use mathlib.Core.List.{List, [], _∷_, _++_, flatMap}
 use Prim.Native.Nat.{ℕ, zero, suc, _<_, _≤_}
@@ -76,6 +76,11 @@ module _ (D : ℕ → Parsed) (H : Shape) where
   chain-listing zero p c h x m = absurd m
   chain-listing (suc n) p c h x (inl e) = rw e (listing-chunk D H c (linked-chunk (suc n) p c h))
   chain-listing (suc n) p c h x (inr m) = onLink n p c h (λ e. absurd (rw e at m)) (λ e b l. chain-listing n c (nextOf (D c)) l x (rw e at m))
+
+  -- it has exactly the listing chunks
+  pub chain-chunks : chainOk D H ≡ true → (c : ℕ) → In c (chain D H) ↔ ((c < H .count) × (isListing (D c) ≡ true))
+  unfolding chain
+  chain-chunks passes c = (chain-listing (H .count) noChunk (H .first) (chain-linked passes) c, λ k. chain-all passes c (k .0) (k .1))
 
   -- ---- how many chunks it may have: any number that is not below its length will do
 
@@ -162,7 +167,7 @@ module _ (D : ℕ → Parsed) (H : Shape) where
     listed passes =
         let l = chain-linked passes in
         record {
-          chunks = λ c. (chain-listing (H .count) noChunk (H .first) l c, λ k. chain-all passes c (k .0) (k .1));
+          chunks = chain-chunks passes;
           once = chain-distinct (H .count) noChunk (H .first) l;
           rises = chain-rising (H .count) noChunk (H .first) l;
         }

@@ -13,6 +13,7 @@ use Rattle.tree.specs.Shape.{Shape, isListing, firstName, GoodChunks}
 use Rattle.tree.specs.Chain.{chain, chainEntries, chainOk}
 use Rattle.tree.specs.Tree.{treeOk}
 use Rattle.tree.specs.Descent.{found, absent, refused, outcome, trail}
+use Rattle.tree.specs.Reading.{plain}
 
 -- what opening has established where it accepts
 pub record GoodDirectory (D : ℕ → Parsed) (H : Shape) : Type 0 where
@@ -49,3 +50,12 @@ pub record Demand3 (D : ℕ → Parsed) (H : Shape) (name : List ℕ) : Type 0 w
   -- a name below the book's first (Q7) ends at the top, every other at a listing chunk, which is as many chunks as the depth
   pub trail-below : below name (firstName (D (H .first))) ≡ true → length (trail D H name) ≡ 1
   pub trail-else : below name (firstName (D (H .first))) ≡ false → length (trail D H name) ≡ H .depth
+
+-- ---- the plain search: what it owes wherever the chain passes, whatever the index chunks are
+
+pub record PlainDemand (D : ℕ → Parsed) (H : Shape) (name : List ℕ) : Type 0 where
+  -- what it finds some listing chunk holds;
+  pub found-held : (c : ℕ) (e : Entry) → plain D H name ≡ found c e → Holds D H name c e
+  -- absent where none does; a refusal never
+  pub absent-iff : (plain D H name ≡ absent) ↔ ((c : ℕ) (e : Entry) → ¬ Holds D H name c e)
+  pub never-refused : plain D H name ≢ refused

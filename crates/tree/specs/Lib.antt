@@ -4,4 +4,5 @@ pub mod Chain
 pub mod Tree
 pub mod Walk
 pub mod Descent
+pub mod Reading
 pub mod Demand

@@ -6,8 +6,8 @@ use crate::lent::Lent;
 use crate::library;
 use second::generate::{Call, Input};
 use second::{
-    chunk_entries, frames, lookup, open, part, start, step, Answer, Cursor, Record, Refusal,
-    Report, Step, NONE,
+    chunk_entries, frames, lookup, open, part, scan, start, step, Answer, Cursor, Record, Refusal,
+    Reply, Report, Step, NONE,
 };
 
 /// What the library answers for no refusal, and where it has nothing to tell: an absent name, the
@@ -73,7 +73,7 @@ fn report_numbers(report: &Report) -> [u64; 5] {
     ]
 }
 
-/// The answers, and what is wrong with the lent places.
+/// The answers, and what is wrong besides, mostly with the lent places.
 struct Both {
     second: u64,
     library: u64,
@@ -107,6 +107,33 @@ impl Both {
     }
 }
 
+/// The name that coverage has for an answer of either search.
+fn reply_text(reply: Reply) -> &'static str {
+    match reply {
+        Reply::Found(_) => "found",
+        Reply::Absent => "absent",
+        Reply::Refused(refusal) => coverage::number(refusal.number),
+    }
+}
+
+/// On a book that opens, how the library's lookup differs from its scan (FORMAT K20).
+fn lookup_disagrees(
+    file: &[u8],
+    record: &Record,
+    name: &[u8],
+    scanned: u64,
+    entry: &[u64; 5],
+) -> Option<String> {
+    let (mut trail, mut answer) = ([0; 5], [0; 6]);
+    let numbers = record_numbers(record);
+    let got = library::lookup(file, &numbers, name, &mut trail, &mut answer);
+    let same = got == scanned && (got != DONE || answer[1..] == *entry);
+    (!same).then(|| {
+        let (lookup, scan) = (answer_text(got), answer_text(scanned));
+        format!("library, FORMAT K20: lookup {lookup} {answer:?}, scan {scan} {entry:?}")
+    })
+}
+
 /// An answer, as a refusal with its place if it can be one.
 fn answer_text(answer: u64) -> String {
     let (number, place) = (answer % 256, answer / 256);
@@ -135,6 +162,7 @@ impl Differ {
                 name,
                 places,
             } => self.lookup(asked, record, name, *places),
+            Call::Scan { record, name } => self.scan(asked, record, name),
             Call::Start { record } => self.start(record),
             Call::Step { record, cursor } => self.step(asked, record, *cursor),
             Call::Page {
@@ -209,31 +237,14 @@ impl Differ {
         places: usize,
         told: &Answer,
     ) {
-        let coverage = &mut self.coverage;
-        let answer = match told {
-            Answer::Found { .. } => "found",
-            Answer::Absent { .. } => "absent",
-            Answer::Refused(refusal) => coverage::number(refusal.number),
-        };
-        coverage.count("lookup", answer);
+        let answer = reply_text(told.reply());
+        self.coverage.count("lookup", answer);
         let places = match places {
             0..=7 => coverage::number(places as u8),
             _ => "more places",
         };
-        coverage.count("trail", places);
-        match name.len() {
-            0 => coverage.count("asked name", "0 bytes"),
-            1 => coverage.count("asked name", "1 byte"),
-            1024 => coverage.count("asked name", "1,024 bytes"),
-            1025 => coverage.count("asked name", "1,025 bytes"),
-            1026.. => coverage.count("asked name", "longer"),
-            _ => {}
-        }
-        if let Answer::Found { report, .. } = told {
-            if part(asked.file, report.place, report.length) != name {
-                coverage.count("asked name", "found in another case");
-            }
-        }
+        self.coverage.count("trail", places);
+        self.count_name("asked name", asked, name, told.reply());
         self.count_descent(record, told);
         if !matches!(answer, "15" | "16") {
             self.count_made_up(
@@ -242,6 +253,22 @@ impl Differ {
                 record,
                 answer != "17",
             );
+        }
+    }
+
+    fn count_name(&mut self, group: &'static str, asked: &Asked, name: &[u8], told: Reply) {
+        match name.len() {
+            0 => self.coverage.count(group, "0 bytes"),
+            1 => self.coverage.count(group, "1 byte"),
+            1024 => self.coverage.count(group, "1,024 bytes"),
+            1025 => self.coverage.count(group, "1,025 bytes"),
+            1026.. => self.coverage.count(group, "longer"),
+            _ => {}
+        }
+        if let Reply::Found(report) = told {
+            if part(asked.file, report.place, report.length) != name {
+                self.coverage.count(group, "found in another case");
+            }
         }
     }
 
@@ -257,6 +284,63 @@ impl Differ {
             false => DESCENTS[trail.len() - 1],
         };
         self.coverage.count("descent", name);
+    }
+
+    fn scan(&mut self, asked: &Asked, record: &Record, name: &[u8]) -> Both {
+        let mut answer = Lent::new("answer", 5);
+        let told = scan(asked.file, record, name);
+        let expected = match told {
+            Reply::Found(report) => {
+                answer.expect(&report_numbers(&report));
+                DONE
+            }
+            Reply::Absent => NOTHING,
+            Reply::Refused(refusal) => code(refusal),
+        };
+        self.count_scan(asked, record, name, told);
+
+        let mut lent_record = lent(record);
+        let mut lent_name = Lent::with("name", name);
+        let got = library::scan(
+            asked.file,
+            lent_record.lend_array(),
+            lent_name.lend(),
+            answer.lend_array(),
+        );
+        let disagreement = match asked.opened == Some(*record) {
+            true => lookup_disagrees(asked.file, record, name, got, answer.lend_array()),
+            false => None,
+        };
+        Both::new(expected, got)
+            .lent(answer.difference())
+            .lent(lent_record.difference())
+            .lent(lent_name.difference())
+            .lent(disagreement)
+    }
+
+    fn count_scan(&mut self, asked: &Asked, record: &Record, name: &[u8], told: Reply) {
+        let answer = reply_text(told);
+        self.coverage.count("scan", answer);
+        self.count_name("name scanned for", asked, name, told);
+        if answer == "15" {
+            return;
+        }
+        let answered = answer != "17";
+        self.count_made_up("scan with a record of no book", asked, record, answered);
+        let looked_up = lookup(asked.file, record, name, 5).reply();
+        let pair = match (looked_up, told) {
+            (Reply::Found(one), Reply::Found(two)) if one != two => "found in different chunks",
+            (Reply::Found(_), Reply::Found(_)) => "both found",
+            (Reply::Found(_), Reply::Absent) => "lookup found, scan absent",
+            (Reply::Found(_), Reply::Refused(_)) => "lookup found, scan 17",
+            (Reply::Absent, Reply::Found(_)) => "lookup absent, scan found",
+            (Reply::Absent, Reply::Absent) => "both absent",
+            (Reply::Absent, Reply::Refused(_)) => "lookup absent, scan 17",
+            (Reply::Refused(_), Reply::Found(_)) => "lookup 17, scan found",
+            (Reply::Refused(_), Reply::Absent) => "lookup 17, scan absent",
+            (Reply::Refused(_), Reply::Refused(_)) => "both 17",
+        };
+        self.coverage.count("scan beside lookup", pair);
     }
 
     /// Counts an answer to a record that the bytes did not give.

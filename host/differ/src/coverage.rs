@@ -29,6 +29,15 @@ const PROGRAM: &[&str] = &[
 
 const ASKING: &[&str] = &["answered", "17"];
 
+const NAME: &[&str] = &[
+    "0 bytes",
+    "1 byte",
+    "1,024 bytes",
+    "1,025 bytes",
+    "longer",
+    "found in another case",
+];
+
 /// The numbers of a record that no book gave, as they are lent.
 pub const RECORD: [&str; library::RECORD] = [
     "version of a made-up record",
@@ -59,6 +68,7 @@ const EXTREMES: [(u64, &str); 5] = [
 const GROUPS: &[(&str, &[&str])] = &[
     ("open", OPENING),
     ("lookup", &["found", "absent", "15", "16", "17"]),
+    ("scan", &["found", "absent", "15", "17"]),
     ("start", &["0"]),
     ("step", &["entry", "end", "17"]),
     ("page", &["entries", "too few places", "17"]),
@@ -70,15 +80,21 @@ const GROUPS: &[(&str, &[&str])] = &[
         "trail",
         &["0", "1", "2", "3", "4", "5", "6", "7", "more places"],
     ),
+    ("asked name", NAME),
+    ("name scanned for", NAME),
     (
-        "asked name",
+        "scan beside lookup",
         &[
-            "0 bytes",
-            "1 byte",
-            "1,024 bytes",
-            "1,025 bytes",
-            "longer",
-            "found in another case",
+            "both found",
+            "found in different chunks",
+            "both absent",
+            "both 17",
+            "lookup found, scan absent",
+            "lookup found, scan 17",
+            "lookup absent, scan found",
+            "lookup absent, scan 17",
+            "lookup 17, scan found",
+            "lookup 17, scan absent",
         ],
     ),
     (
@@ -98,6 +114,7 @@ const GROUPS: &[(&str, &[&str])] = &[
         &["none", "one short", "enough", "one more", "4,070"],
     ),
     ("lookup with a record of no book", ASKING),
+    ("scan with a record of no book", ASKING),
     ("step with a record of no book", ASKING),
     ("page with a record of no book", ASKING),
     (

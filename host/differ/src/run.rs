@@ -65,15 +65,15 @@ pub fn run(differ: &mut Differ, list: &Path, seed: u64, index: u64) -> Result<()
 
 /// Both may be wrong alike: what the case was made for has to come of it.
 fn aim_is_hit(differ: &mut Differ, case: &Case) -> Result<(), String> {
-    let refusal = generate::refusal_of(&case.file, &case.call);
-    if let (Aim::Likely(_), Some(refusal)) = (case.aim, refusal) {
+    let outcome = generate::outcome_of(&case.file, &case.call);
+    if let (Aim::Likely(_), Some(refusal)) = (case.aim, outcome.refusal()) {
         let number = coverage::number(refusal.number);
         differ.coverage.count("the earlier of two damages", number);
     }
-    if case.aim.allows(refusal) {
+    if case.aim.allows(outcome) {
         Ok(())
     } else {
-        Err(format!("aim: {:?}\nboth: {refusal:?}", case.aim))
+        Err(format!("aim: {:?}\nboth: {outcome:?}", case.aim))
     }
 }
 

@@ -45,11 +45,16 @@ that do not print are written as \\xNN, a backslash as \\\\.
 ";
 
 pub const FIND: &str = "\
-Usage: hods find BOOK NAME..
+Usage: hods find [--chain] BOOK NAME..
 
 Looks each name up and says section, offset and length of its entry, or that it
 is absent, and the numbers of the chunks opened on the way. The letters A to Z
 and a to z are the same in a name.
+
+      --chain            look along the chain of listing chunks, without the
+                         index; no numbers of chunks are printed then. A book
+                         that only refusal 14, a broken index, keeps from
+                         opening is told so and searched all the same
 ";
 
 pub const CAT: &str = "\

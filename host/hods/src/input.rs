@@ -4,7 +4,7 @@ use std::ffi::OsStr;
 use std::fs::File;
 use std::io::{self, Read};
 
-use hodsplinter::Book;
+use hodsplinter::{Book, Chain};
 
 use crate::finding;
 use crate::progress::Progress;
@@ -44,6 +44,11 @@ pub fn read_file(path: &OsStr) -> Result<Vec<u8>, Trouble> {
 /// The book in these bytes.
 pub fn open<'a>(path: &OsStr, bytes: &'a [u8]) -> Result<Book<'a>, Trouble> {
     Book::open(bytes).map_err(|refusal| finding::refused(&called(path), bytes, refusal))
+}
+
+/// The same for a search along the chain: a book whose index is broken is taken too.
+pub fn open_chain<'a>(path: &OsStr, bytes: &'a [u8]) -> Result<Chain<'a>, Trouble> {
+    Chain::open(bytes).map_err(|refusal| finding::refused(&called(path), bytes, refusal))
 }
 
 fn read(path: &OsStr, judge: impl Fn(&[u8]) -> Result<(), Trouble>) -> Result<Vec<u8>, Trouble> {

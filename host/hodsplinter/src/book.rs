@@ -2,6 +2,7 @@
 
 use std::fmt;
 
+use crate::chain;
 use crate::encint;
 use crate::entry::{Entry, Lookup, Trail};
 use crate::listing::{Cursor, Entries, Steps};
@@ -86,6 +87,24 @@ impl<'a> Book<'a> {
         }
         let entry = Entry::of(self.file, &answer[1..]);
         Ok(Lookup::Found { entry, trail })
+    }
+
+    /// Looks a name up along the chain from the first listing chunk on, without the index. It checks every chunk up to the one that holds the name, so
+    /// that it is slower than [`Book::lookup`]; that both give the same entry, and say of the same names that they are absent, is proved for every book that
+    /// opens. Names of other than 1 to 1,024 bytes get the refusal 15.
+    ///
+    /// ```
+    /// let file = std::fs::read("../../samples/several.chm")?;
+    /// let book = hodsplinter::Book::open(&file)?;
+    /// let entry = book.scan("/zones.htm")?.unwrap();
+    /// assert_eq!(entry.name(), b"/Zones.htm");
+    /// assert_eq!(Some(entry), book.lookup("/zones.htm")?.entry());
+    /// assert_eq!(book.scan("/no-such-page")?, None);
+    /// assert_eq!(book.scan("").unwrap_err().number(), 15);
+    /// # Ok::<(), Box<dyn std::error::Error>>(())
+    /// ```
+    pub fn scan(&self, name: impl AsRef<[u8]>) -> Result<Option<Entry<'a>>, Refusal> {
+        chain::scan(self.file, &self.record, name.as_ref())
     }
 
     /// All entries in the order of the listing, read chunk by chunk.

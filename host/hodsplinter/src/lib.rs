@@ -6,7 +6,8 @@
 //! itself. Limits and refusals are those of docs/FORMAT.md, cited here by their rows.
 //!
 //! - [`Book::open`] checks a whole file and gives a [`Book`], or the first [`Refusal`].
-//! - [`Book::lookup`] finds an entry by its name, [`Book::entries`] lists all of them.
+//! - [`Book::lookup`] finds an entry by its name, [`Book::scan`] does so without the index, [`Book::entries`] lists all of them.
+//! - [`Chain::open`] takes books with a broken index too, for scans alone.
 //! - [`Book::stored`] lends the bytes of an entry of section 0, [`Book::part`] any part of the file.
 //! - [`write_head`] makes the head of a new book from entries.
 //!
@@ -17,6 +18,7 @@
 #![warn(missing_docs)]
 
 mod book;
+mod chain;
 mod encint;
 mod entry;
 mod listing;
@@ -28,6 +30,7 @@ mod sys;
 mod writer;
 
 pub use book::Book;
+pub use chain::Chain;
 pub use entry::{name_order, Entry, Lookup, Trail};
 pub use listing::{Cursor, Entries, Steps};
 pub use record::Record;

@@ -20,6 +20,14 @@ extern "C" {
         places: usize,
         answer: *mut u64,
     ) -> u64;
+    fn hods_scan(
+        file: *const u8,
+        len: usize,
+        record: *const u64,
+        name: *const u8,
+        name_len: usize,
+        answer: *mut u64,
+    ) -> u64;
     fn hods_start(record: *const u64, cursor: *mut u64) -> u64;
     fn hods_step(
         file: *const u8,
@@ -74,6 +82,19 @@ pub fn lookup(
             name.len(),
             trail.as_mut_ptr(),
             trail.len(),
+            answer.as_mut_ptr(),
+        )
+    }
+}
+
+pub fn scan(file: &[u8], record: &[u64; RECORD], name: &[u8], answer: &mut [u64; 5]) -> u64 {
+    unsafe {
+        hods_scan(
+            file.as_ptr(),
+            file.len(),
+            record.as_ptr(),
+            name.as_ptr(),
+            name.len(),
             answer.as_mut_ptr(),
         )
     }

@@ -48,6 +48,30 @@ impl Record {
         }
     }
 
+    /// The record of a head that refusals 1 to 7 pass, as opening reads it (docs/FORMAT.md, K1). It is for a book that a later refusal keeps from opening;
+    /// `None` where a field is not inside the file.
+    pub(crate) fn of_head(file: &[u8]) -> Option<Record> {
+        let version = word(file, 0x04)?;
+        let directory_start = long(file, 0x48)?;
+        let directory = file.get(usize::try_from(directory_start).ok()?..)?;
+        Some(Record {
+            version,
+            time: word(file, 0x10)?,
+            language: word(file, 0x14)?,
+            directory_start,
+            count: word(directory, 0x2C)?,
+            density: word(directory, 0x14)?,
+            depth: word(directory, 0x18)?,
+            root: word(directory, 0x1C)?,
+            first: word(directory, 0x20)?,
+            last: word(directory, 0x24)?,
+            content_start: match version {
+                2 => directory_start.checked_add(long(file, 0x50)?)?,
+                _ => long(file, 0x58)?,
+            },
+        })
+    }
+
     /// The numbers again.
     pub(crate) fn numbers(&self) -> [u64; RECORD] {
         [
@@ -63,5 +87,33 @@ impl Record {
             self.last.into(),
             self.content_start,
         ]
+    }
+}
+
+/// The 32-bit number at a place.
+fn word(bytes: &[u8], place: usize) -> Option<u32> {
+    let bytes = bytes.get(place..)?.get(..4)?;
+    Some(u32::from_le_bytes(bytes.try_into().ok()?))
+}
+
+/// The 64-bit number at a place.
+fn long(bytes: &[u8], place: usize) -> Option<u64> {
+    let bytes = bytes.get(place..)?.get(..8)?;
+    Some(u64::from_le_bytes(bytes.try_into().ok()?))
+}
+
+#[cfg(test)]
+mod tests {
+    use super::Record;
+    use crate::Book;
+
+    #[test]
+    fn the_head_has_the_record_of_a_book_that_opens() {
+        for name in ["sample.chm", "several.chm"] {
+            let file = std::fs::read(format!("../../samples/{name}")).unwrap();
+            let book = Book::open(&file).unwrap();
+            assert_eq!(Record::of_head(&file).as_ref(), Some(book.record()));
+            assert_eq!(Record::of_head(&file[..0x58]), None);
+        }
     }
 }

@@ -35,6 +35,10 @@ pub fn lookup(
     told(raw::lookup(file, record, name, trail, answer))
 }
 
+pub fn scan(file: &[u8], record: &[u64; RECORD], name: &[u8], answer: &mut [u64; ENTRY]) -> Told {
+    told(raw::scan(file, record, name, answer))
+}
+
 pub fn start(record: &[u64; RECORD], cursor: &mut [u64; 2]) -> Told {
     told(raw::start(record, cursor))
 }

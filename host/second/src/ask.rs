@@ -3,7 +3,7 @@
 use crate::chunk::{read_chunk, Chunk, Entry, Limits, Stored, CHUNK};
 use crate::name::compare;
 use crate::open::DIRECTORY_HEADER;
-use crate::{require, Answer, Cursor, Record, Refusal, Report, Step, NONE};
+use crate::{require, Answer, Cursor, Record, Refusal, Reply, Report, Step, NONE};
 use std::cmp::Ordering;
 
 /// Looks a name up. `places` is the length of the trail that a caller lends; the answer's trail
@@ -29,10 +29,7 @@ fn descend(file: &[u8], record: &Record, name: &[u8]) -> Result<Answer, Refusal>
         trail.push(at as u32); // below the count, as it was met
         match chunk {
             Chunk::Listing { entries, .. } if level == 1 => {
-                let held = entries
-                    .iter()
-                    .find(|entry| compare(entry.name, name) == Ordering::Equal);
-                return Ok(match held {
+                return Ok(match holding(&entries, name) {
                     Some(entry) => Answer::Found {
                         report: book.report(at, entry),
                         trail,
@@ -53,6 +50,37 @@ fn descend(file: &[u8], record: &Record, name: &[u8]) -> Result<Answer, Refusal>
             _ => return Err(Refusal::new(17)), // the wrong kind for its level
         }
     }
+}
+
+/// The entry of a listing chunk that holds the name (FORMAT Q5).
+fn holding<'b, 'a>(entries: &'b [Entry<'a, Stored>], name: &[u8]) -> Option<&'b Entry<'a, Stored>> {
+    entries
+        .iter()
+        .find(|entry| compare(entry.name, name) == Ordering::Equal)
+}
+
+/// Looks a name up along the chain, without the index (FORMAT K16 to K19, RO5).
+pub fn scan(file: &[u8], record: &Record, name: &[u8]) -> Reply {
+    require((1..=1024).contains(&name.len()), 15)
+        .and_then(|()| follow(file, record, name))
+        .unwrap_or_else(Reply::Refused)
+}
+
+/// From the first listing chunk on, next by next.
+fn follow(file: &[u8], record: &Record, name: &[u8]) -> Result<Reply, Refusal> {
+    let book = Asked::new(file, record)?;
+    let mut at = record.first;
+    for _ in 0..record.count {
+        let (entries, next) = book.meet_listing(at)?;
+        if let Some(entry) = holding(&entries, name) {
+            return Ok(Reply::Found(book.report(at, entry)));
+        }
+        if next == NONE {
+            return Ok(Reply::Absent);
+        }
+        at = next.into();
+    }
+    Err(Refusal::new(17)) // a chunk beyond as many as the count (FORMAT K19)
 }
 
 /// The cursor that a listing starts with (FORMAT K8).

@@ -1,7 +1,8 @@
 //! Seeded cases to compare another implementation with this one.
 //!
 //! A case follows from a seed and its number alone. It says what it aims at where that is known,
-//! so that the generators can be tested too: a refusal, or an answer that is none.
+//! so that the generators can be tested too: a refusal, an answer that is none, or for a scan the
+//! entry that is found.
 
 pub mod ask;
 pub mod book;
@@ -16,7 +17,10 @@ pub mod write;
 
 pub use random::Random;
 
-use crate::{chunk_entries, lookup, open, step, write_head, Answer, Cursor, Record, Refusal, Step};
+use crate::{
+    chunk_entries, lookup, open, scan, step, write_head, Cursor, Record, Refusal, Reply, Report,
+    Step,
+};
 
 /// What is asked of a file.
 #[derive(Debug, Clone)]
@@ -27,6 +31,10 @@ pub enum Call {
         name: Vec<u8>,
         /// The length of the lent trail.
         places: usize,
+    },
+    Scan {
+        record: Record,
+        name: Vec<u8>,
     },
     Start {
         record: Record,
@@ -86,6 +94,9 @@ impl Input {
 pub enum Aim {
     /// An answer that is no refusal.
     Good,
+    /// The name is found in the entry of this report.
+    Found(Report),
+    Absent,
     Refused(Refusal),
     /// This refusal, unless something else in the case hides it.
     Likely(Refusal),
@@ -100,11 +111,40 @@ impl Aim {
     }
 
     /// Whether this answer keeps what the case says; a hidden refusal does not break it.
-    pub fn allows(self, refusal: Option<Refusal>) -> bool {
+    pub fn allows(self, outcome: Outcome) -> bool {
         match self {
-            Aim::Good => refusal.is_none(),
-            Aim::Refused(aimed) => refusal == Some(aimed),
+            Aim::Good => outcome.refusal().is_none(),
+            Aim::Found(report) => outcome == Outcome::Found(report),
+            Aim::Absent => outcome == Outcome::Absent,
+            Aim::Refused(aimed) => outcome == Outcome::Refused(aimed),
             Aim::Likely(_) | Aim::Free => true,
+        }
+    }
+}
+
+/// What came of a call, as far as an aim speaks of it.
+#[derive(Debug, Clone, Copy, PartialEq, Eq)]
+pub enum Outcome {
+    Found(Report),
+    Absent,
+    Refused(Refusal),
+    /// Any other answer.
+    Other,
+}
+
+impl Outcome {
+    pub fn refusal(self) -> Option<Refusal> {
+        match self {
+            Outcome::Refused(refusal) => Some(refusal),
+            _ => None,
+        }
+    }
+
+    fn of_search(reply: Reply) -> Outcome {
+        match reply {
+            Reply::Found(report) => Outcome::Found(report),
+            Reply::Absent => Outcome::Absent,
+            Reply::Refused(refusal) => Outcome::Refused(refusal),
         }
     }
 }
@@ -129,8 +169,9 @@ pub fn case(seed: u64, index: u64) -> Case {
     }
     match random.below(100) {
         0..=54 => opening::case(random),
-        55..=70 => ask::lookup_case(random),
-        71..=82 => ask::step_case(random),
+        55..=65 => ask::lookup_case(random),
+        66..=73 => ask::scan_case(random),
+        74..=82 => ask::step_case(random),
         83..=84 => ask::part_case(random),
         _ => write::case(random),
     }
@@ -173,18 +214,16 @@ fn labels_of<Subject>(kinds: &[Kind<Subject>]) -> Vec<&'static str> {
     kinds.iter().map(|kind| kind.label).collect()
 }
 
-/// How this implementation refuses a call, if it does.
-pub fn refusal_of(file: &[u8], call: &Call) -> Option<Refusal> {
-    match call {
-        Call::Open => open(file).err(),
+/// What this implementation makes of a call.
+pub fn outcome_of(file: &[u8], call: &Call) -> Outcome {
+    let refusal = match call {
         Call::Lookup {
             record,
             name,
             places,
-        } => match lookup(file, record, name, *places) {
-            Answer::Refused(refusal) => Some(refusal),
-            _ => None,
-        },
+        } => return Outcome::of_search(lookup(file, record, name, *places).reply()),
+        Call::Scan { record, name } => return Outcome::of_search(scan(file, record, name)),
+        Call::Open => open(file).err(),
         Call::Step { record, cursor } => match step(file, record, *cursor) {
             Step::Refused(refusal) => Some(refusal),
             _ => None,
@@ -192,5 +231,11 @@ pub fn refusal_of(file: &[u8], call: &Call) -> Option<Refusal> {
         Call::Page { record, chunk, .. } => chunk_entries(file, record, *chunk).err(),
         Call::Start { .. } | Call::Part { .. } => None,
         Call::Write(input) => input.head().err(),
-    }
+    };
+    refusal.map_or(Outcome::Other, Outcome::Refused)
+}
+
+/// How this implementation refuses a call, if it does.
+pub fn refusal_of(file: &[u8], call: &Call) -> Option<Refusal> {
+    outcome_of(file, call).refusal()
 }

@@ -16,7 +16,7 @@ mod number;
 mod open;
 mod write;
 
-pub use ask::{chunk_entries, lookup, part, start, step};
+pub use ask::{chunk_entries, lookup, part, scan, start, step};
 pub use chunk::quick_words;
 pub use frames::{entry_bytes, frames};
 pub use name::compare;
@@ -95,6 +95,25 @@ pub struct Report {
 pub enum Answer {
     Found { report: Report, trail: Vec<u32> },
     Absent { trail: Vec<u32> },
+    Refused(Refusal),
+}
+
+impl Answer {
+    /// The same without the trail.
+    pub fn reply(&self) -> Reply {
+        match self {
+            Answer::Found { report, .. } => Reply::Found(*report),
+            Answer::Absent { .. } => Reply::Absent,
+            Answer::Refused(refusal) => Reply::Refused(*refusal),
+        }
+    }
+}
+
+/// What a scan answers (FORMAT K16 to K19).
+#[derive(Debug, Clone, Copy, PartialEq, Eq)]
+pub enum Reply {
+    Found(Report),
+    Absent,
     Refused(Refusal),
 }
 

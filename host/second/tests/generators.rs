@@ -1,13 +1,13 @@
 //! The generators: what they call good is good, and what they aim at is hit.
 
-use second::generate::ask::{lookup_case, step_case};
+use second::generate::ask::{lookup_case, scan_case, step_case};
 use second::generate::book::{book, book_of_depth};
 use second::generate::damage::{damaged, damaged_twice, damages, varied};
 use second::generate::names::other_case;
 use second::generate::plan::Book;
 use second::generate::questions::questions;
 use second::generate::write::{deep_items, good_items, wide_entries};
-use second::generate::{case, labels, refusal_of, Aim, Call, Case, Random};
+use second::generate::{case, labels, outcome_of, refusal_of, Aim, Call, Case, Random};
 use second::*;
 use std::collections::{BTreeMap, BTreeSet};
 
@@ -75,6 +75,7 @@ fn check_good(random: &mut Random, book: &Book) {
                 }
                 other => panic!("{other:?}"),
             }
+            assert_eq!(scan(&file, &record, name), Reply::Found(reports[at]));
         }
     }
 }
@@ -123,7 +124,7 @@ fn good_books_are_good() {
     assert_eq!(missing, 0, "{seen:#?}");
 }
 
-/// A lookup agrees with a search through the whole listing.
+/// A lookup agrees with a search through the whole listing, and with a scan (FORMAT K20).
 #[test]
 fn lookups_agree_with_the_listing() {
     let mut found = 0;
@@ -146,7 +147,9 @@ fn lookups_agree_with_the_listing() {
         let held = listing_by_chunks(&file, &record)
             .into_iter()
             .find(|report| compare(part(&file, report.place, report.length), &name).is_eq());
-        match lookup(&file, &record, &name, places) {
+        let answer = lookup(&file, &record, &name, places);
+        assert_eq!(scan(&file, &record, &name), answer.reply());
+        match answer {
             Answer::Found { report, .. } => {
                 assert_eq!(Some(report), held);
                 found += 1;
@@ -160,6 +163,51 @@ fn lookups_agree_with_the_listing() {
         }
     }
     assert!(found > 100 && absent > 100, "{found} {absent}");
+}
+
+/// What lookup, with enough places, and scan have to make of a case by its label.
+fn both_searches(label: &str, found: Reply, scanned: Reply) -> bool {
+    use Reply::{Absent, Found};
+    match label {
+        "scan for a name below its index entry"
+        | "scan for a name whose index entry is left out" => {
+            matches!((found, scanned), (Absent, Found(_)))
+        }
+        "scan for a name behind a chain cut short" => {
+            matches!((found, scanned), (Found(_), Absent))
+        }
+        "scan for a name that the index leads to in a later chunk" => {
+            matches!((found, scanned), (Found(one), Found(two)) if one != two)
+        }
+        _ => true,
+    }
+}
+
+/// Every aim of a scan is hit, and lookup differs from scan where it has to.
+#[test]
+fn scans_follow_no_index() {
+    let random = &mut Random::new(19);
+    let mut pairs = BTreeSet::new();
+    let word = |reply| match reply {
+        Reply::Found(_) => "found",
+        Reply::Absent => "absent",
+        Reply::Refused(_) => "refused",
+    };
+    for _ in 0..4000 {
+        let case = scan_case(random);
+        let (file, label) = (&case.file, case.label);
+        let (record, name) = match &case.call {
+            Call::Scan { record, name } => (record, name),
+            _ => unreachable!(),
+        };
+        let outcome = outcome_of(file, &case.call);
+        assert!(case.aim.allows(outcome), "{label}: {outcome:?}");
+        let found = lookup(file, record, name, 5).reply();
+        let scanned = scan(file, record, name);
+        assert!(both_searches(label, found, scanned), "{label}");
+        pairs.insert((word(found), word(scanned)));
+    }
+    assert_eq!(pairs.len(), 9, "{pairs:?}");
 }
 
 /// A step and the list of a whole chunk say the same, and both refuse the same.
@@ -322,12 +370,13 @@ fn a_run_meets_every_refusal() {
     let mut masked = 0;
     for index in 0..20_000 {
         let case = case(1, index);
-        let refusal = refusal_of(&case.file, &case.call);
+        let outcome = outcome_of(&case.file, &case.call);
         let (aim, label) = (case.aim, case.label);
         assert!(
-            aim.allows(refusal),
-            "case {index}, {label}: {aim:?}, {refusal:?}"
+            aim.allows(outcome),
+            "case {index}, {label}: {aim:?}, {outcome:?}"
         );
+        let refusal = outcome.refusal();
         if let Aim::Likely(aimed) = aim {
             masked += u64::from(refusal != Some(aimed));
         }

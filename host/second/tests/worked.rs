@@ -3,6 +3,15 @@
 use second::*;
 use std::cmp::Ordering;
 
+/// The entry `/a.htm` of the sample book (FORMAT W16).
+const PAGE: Report = Report {
+    place: 230,
+    length: 6,
+    section: 0,
+    offset: 0,
+    size: 5,
+};
+
 /// FORMAT N9.
 #[test]
 fn encints_that_are_read() {
@@ -162,13 +171,6 @@ fn sample_book_is_read() {
         offset: 0,
         size: 0,
     };
-    let page = Report {
-        place: 230,
-        length: 6,
-        section: 0,
-        offset: 0,
-        size: 5,
-    };
     let second = Cursor { chunk: 0, entry: 1 };
     let end = Cursor {
         chunk: 0xFFFF_FFFF,
@@ -178,18 +180,18 @@ fn sample_book_is_read() {
         step(&file, &record, start(&record)),
         Step::Entry(slash, second)
     );
-    assert_eq!(step(&file, &record, second), Step::Entry(page, end));
+    assert_eq!(step(&file, &record, second), Step::Entry(PAGE, end));
     assert_eq!(step(&file, &record, end), Step::End(end));
     assert_eq!(
         chunk_entries(&file, &record, 0),
-        Ok((vec![slash, page], NONE))
+        Ok((vec![slash, PAGE], NONE))
     );
 
     let trail = vec![0];
     assert_eq!(
         lookup(&file, &record, b"/A.HTM", 5),
         Answer::Found {
-            report: page,
+            report: PAGE,
             trail: trail.clone()
         }
     );
@@ -255,6 +257,187 @@ fn order_of_the_checks_when_asking() {
         entry: 0,
     };
     assert_eq!(step(&file, &good, far), Step::Refused(Refusal::new(17)));
+}
+
+#[test]
+fn sample_book_is_scanned() {
+    let file = sample_book();
+    let record = open(&file).unwrap();
+    assert_eq!(scan(&file, &record, b"/A.HTM"), Reply::Found(PAGE));
+    for absent in [&b"/a.ht"[..], b"/a.html", b"!", b"~"] {
+        assert_eq!(scan(&file, &record, absent), Reply::Absent);
+    }
+}
+
+/// A listing chunk with this next and one-letter names, without quick words at density 2. No
+/// chunk has the number 7 of its previous.
+fn listing_chunk(next: u32, names: &[u8]) -> Vec<u8> {
+    let entries: Vec<u8> = names
+        .iter()
+        .flat_map(|&name| [1, name, 1, 2, name])
+        .collect();
+    let tail = 4076 - entries.len() as u32;
+    let mut chunk = b"PMGL".to_vec();
+    for word in [tail, 0, 7, next] {
+        chunk.extend(word.to_le_bytes());
+    }
+    chunk.extend(entries);
+    chunk.resize(4094, 0);
+    chunk.extend((names.len() as u16).to_le_bytes());
+    chunk
+}
+
+/// Bytes with these chunks, and a record for them that no book gave.
+fn directory(first: u64, chunks: &[Vec<u8>]) -> (Vec<u8>, Record) {
+    let file = [vec![0; 84], chunks.concat()].concat();
+    let record = Record {
+        version: 0,
+        time: 0,
+        language: 0,
+        start: 0,
+        count: chunks.len() as u64,
+        density: 2,
+        depth: 5,
+        root: 9,
+        first,
+        last: 9,
+        content: 0,
+    };
+    (file, record)
+}
+
+/// The entry of a one-letter name, by its chunk and its place in the chunk.
+fn letter(name: u8, chunk: u64, entry: u64) -> Reply {
+    Reply::Found(Report {
+        place: 84 + 4096 * chunk + 20 + 5 * entry + 1,
+        length: 1,
+        section: 1,
+        offset: 2,
+        size: name.into(),
+    })
+}
+
+const REFUSED: Reply = Reply::Refused(Refusal {
+    number: 17,
+    place: NONE,
+});
+
+/// FORMAT K16 to K18: the next numbers lead, whatever the order of names, the previous numbers,
+/// the last chunk, the root and the depth.
+#[test]
+fn scans_along_the_chain() {
+    let chunks = [
+        listing_chunk(NONE, b"af"),
+        listing_chunk(0, b"Bd"),
+        listing_chunk(1, b"ef"),
+    ];
+    let (file, record) = directory(2, &chunks);
+    for (name, reply) in [
+        (b'e', letter(b'e', 2, 0)),
+        (b'b', letter(b'B', 1, 0)),
+        (b'D', letter(b'd', 1, 1)),
+        (b'a', letter(b'a', 0, 0)),
+        // It stands in chunk 0 too; the chain comes to chunk 2 first.
+        (b'f', letter(b'f', 2, 1)),
+        (b'c', Reply::Absent),
+    ] {
+        assert_eq!(scan(&file, &record, &[name]), reply);
+    }
+    let behind = Record { first: 0, ..record };
+    assert_eq!(scan(&file, &behind, b"f"), letter(b'f', 0, 1));
+    assert_eq!(scan(&file, &behind, b"e"), Reply::Absent);
+}
+
+/// FORMAT K19: as many chunks as the count, and the first chunk too many.
+#[test]
+fn scans_round_a_ring() {
+    let (file, record) = directory(1, &[listing_chunk(1, b"b"), listing_chunk(0, b"a")]);
+    assert_eq!(scan(&file, &record, b"a"), letter(b'a', 1, 0));
+    assert_eq!(scan(&file, &record, b"b"), letter(b'b', 0, 0));
+    assert_eq!(scan(&file, &record, b"c"), REFUSED);
+    // With a count of 1 chunk 0 is met and no other.
+    let (file, record) = directory(0, &[listing_chunk(0, b"a")]);
+    assert_eq!(scan(&file, &record, b"A"), letter(b'a', 0, 0));
+    assert_eq!(scan(&file, &record, b"b"), REFUSED);
+    let (file, record) = directory(0, &[listing_chunk(NONE, b"a")]);
+    assert_eq!(scan(&file, &record, b"b"), Reply::Absent);
+}
+
+/// FORMAT K13, K14, K17: what is refused when met, and not before.
+#[test]
+fn scans_that_meet_a_bad_chunk() {
+    const SECOND: usize = 84 + 4096;
+    let breaks: [fn(&mut Vec<u8>, &mut Record); 5] = [
+        |file, _| file[SECOND + 3] = b'X',
+        |file, _| file[SECOND + 26] = b'B', // the name behind `b`
+        |file, _| file[84 + 0x10] = 2,      // the first chunk's next: the count
+        |file, _| file.truncate(SECOND + 4095),
+        |_, record| record.count = 1,
+    ];
+    for change in breaks {
+        let chunks = [listing_chunk(1, b"a"), listing_chunk(NONE, b"bc")];
+        let (mut file, mut record) = directory(0, &chunks);
+        assert_eq!(scan(&file, &record, b"b"), letter(b'b', 1, 0));
+        assert_eq!(scan(&file, &record, b"c"), letter(b'c', 1, 1));
+        assert_eq!(scan(&file, &record, b"d"), Reply::Absent);
+        change(&mut file, &mut record);
+        assert_eq!(scan(&file, &record, b"a"), letter(b'a', 0, 0));
+        for name in [b"b", b"c", b"d"] {
+            assert_eq!(scan(&file, &record, name), REFUSED);
+        }
+    }
+}
+
+/// FORMAT K13, K19: an index chunk, and a first chunk that is none or not there.
+#[test]
+fn scans_that_meet_no_listing_chunk() {
+    // One entry, `c` with the child 0.
+    let mut index = b"PMGI\xF5\x0F\x00\x00\x01c\x00".to_vec();
+    index.resize(4094, 0);
+    index.extend([1, 0]);
+    let (file, record) = directory(0, &[listing_chunk(1, b"a"), index]);
+    let tree = Record {
+        depth: 2,
+        root: 1,
+        ..record
+    };
+    let trail = vec![1, 0];
+    assert_eq!(lookup(&file, &tree, b"c", 5), Answer::Absent { trail });
+    assert_eq!(scan(&file, &tree, b"a"), letter(b'a', 0, 0));
+    assert_eq!(scan(&file, &tree, b"c"), REFUSED);
+    for first in [1, 2, 0xFFFF_FFFF, 1 << 32, u64::MAX] {
+        let record = Record { first, ..record };
+        assert_eq!(scan(&file, &record, b"a"), REFUSED);
+    }
+}
+
+/// FORMAT RO5, K12.
+#[test]
+fn order_of_the_checks_of_a_scan() {
+    let file = sample_book();
+    let good = open(&file).unwrap();
+    let refused = |number| Reply::Refused(Refusal::new(number));
+    for bad in [
+        Record { density: 8, ..good },
+        Record { depth: 0, ..good },
+        Record { depth: 6, ..good },
+        Record { count: 0, ..good },
+        Record {
+            count: 4097,
+            ..good
+        },
+        Record {
+            content: 4306,
+            ..good
+        },
+    ] {
+        assert_eq!(scan(&file, &bad, b""), refused(15));
+        assert_eq!(scan(&file, &bad, &[b'a'; 1025]), refused(15));
+        assert_eq!(scan(&file, &bad, &[b'a'; 1024]), refused(17));
+        assert_eq!(scan(&file, &bad, b"/a.htm"), refused(17));
+    }
+    assert_eq!(scan(&file, &good, &[b'a'; 1024]), Reply::Absent);
+    assert_eq!(scan(&file, &good, &[b'a'; 1025]), refused(15));
 }
 
 /// FORMAT W2, RO6.

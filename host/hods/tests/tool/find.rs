@@ -1,6 +1,6 @@
 //! `hods find`.
 
-use crate::run::{command, fed, hods, sample};
+use crate::run::{command, fed, hods, sample, Folder, Ran};
 
 #[test]
 fn found_and_absent() {
@@ -24,6 +24,96 @@ fn found_and_absent() {
 }
 
 #[test]
+fn along_the_chain() {
+    let names = ["several.chm", "/Zones.htm", "/ZONES.HTM", "/"];
+    let run = hods(&[&["find", "--chain"], &names[..]].concat());
+    let want = "/Zones.htm: found, section 0, offset 26, length 10\n\
+        /ZONES.HTM: found as /Zones.htm, section 0, offset 26, length 10\n\
+        /: found, section 0, offset 0, length 0\n";
+    assert_eq!(run.good(), want);
+
+    let run = hods(&["find", "several.chm", "/nope", "--chain", "/#TOPICS", "!"]);
+    let want = "/nope: absent\n\
+        /#TOPICS: found, section 0, offset 8, length 8\n\
+        !: absent\n";
+    assert_eq!((run.status, run.out(), &run.err[..]), (1, want, ""));
+
+    let run = fed(
+        command(&["find", "--chain", "-", "/a.htm"]),
+        &sample("sample.chm"),
+    );
+    assert!(run.good().ends_with("length 5\n"));
+    let run = hods(&["find", "sample.chm", "--", "--chain"]);
+    assert_eq!((run.status, run.out()), (1, "--chain: absent; chunk 0\n"));
+}
+
+/// Both ways say the same of every name of the book, and of one behind each.
+#[test]
+fn both_ways_agree() {
+    let listed = hods(&["list", "several.chm"]);
+    let names = listed.good().lines();
+    let names = names.filter_map(|line| line.split_whitespace().nth(3));
+    let asked: Vec<String> = names
+        .flat_map(|name| [name.to_string(), format!("{name}!")])
+        .collect();
+    assert_eq!(asked.len(), 466);
+    let found = |options: &[&str]| {
+        let mut command = command(&[&["find"], options, &["several.chm"]].concat());
+        Ran::of(command.args(&asked).output().unwrap())
+    };
+    let (index, chain) = (found(&[]), found(&["--chain"]));
+    assert_eq!((index.status, chain.status), (1, 1));
+    let without_chunks = |line: &str| line.split("; chunk").next().map(str::to_string);
+    let index: Vec<String> = index.out().lines().filter_map(without_chunks).collect();
+    assert_eq!(index, chain.out().lines().collect::<Vec<_>>());
+    assert_eq!(chain.out().matches(": absent\n").count(), 233);
+}
+
+/// A wrong name in the root, a wrong child, a tree that is too low: the chain has all names all the same.
+#[test]
+fn a_broken_index() {
+    let folder = Folder::new("broken-index");
+    let good = sample("several.chm");
+    let root = 0x78 + 84 + 6 * 4096;
+    let listed = hods(&["list", "several.chm"]);
+    let names = listed.good().lines();
+    let names: Vec<&str> = names
+        .filter_map(|line| line.split_whitespace().nth(3))
+        .collect();
+    for (place, byte) in [(root + 9, b'.'), (root + 10, 8), (0x78 + 0x18, 2)] {
+        let mut book = good.clone();
+        assert_ne!(book[place], byte);
+        book[place] = byte;
+        folder.put("book", &book);
+        folder
+            .hods(&["find", "book", "/"])
+            .bad(1, &["hods: book: refusal 14"]);
+
+        let run = folder.hods(&[&["find", "--chain", "book", "/nope"], &names[..]].concat());
+        assert_eq!(run.status, 1);
+        run.says(&["hods: book: refusal 14"]);
+        assert_eq!(run.err.lines().count(), 1);
+        let mut lines = run.out().lines();
+        assert_eq!(lines.next(), Some("/nope: absent"));
+        assert_eq!(lines.clone().count(), 233);
+        assert!(lines.all(|line| line.contains(": found, section ")));
+    }
+    let run = folder.hods(&["find", "--chain", "book", "/"]);
+    assert_eq!((run.status, run.out().lines().count()), (1, 1));
+}
+
+/// What else is wrong is refused, though the chain could be followed.
+#[test]
+fn a_broken_index_chunk() {
+    let folder = Folder::new("broken-index-chunk");
+    let mut book = sample("several.chm");
+    book[0x78 + 84 + 6 * 4096] = b'?';
+    folder.put("book", &book);
+    let run = folder.hods(&["find", "--chain", "book", "/"]);
+    run.bad(1, &["hods: book: refusal 8", "in chunk 6"]);
+}
+
+#[test]
 fn names_that_cannot_be() {
     let long = "x".repeat(1025);
     let run = hods(&["find", "several.chm", "", "/", &long]);
@@ -32,6 +122,9 @@ fn names_that_cannot_be() {
         "hods: several.chm: refusal 15 (FORMAT R15): the asked name has 0 bytes, not 1 to 1024\n",
         "has 1025 bytes",
     ]);
+    let run = hods(&["find", "--chain", "several.chm", "", "/", &long]);
+    assert_eq!((run.status, run.out().lines().count()), (1, 1));
+    run.says(&["refusal 15 (FORMAT R15)", "has 0 bytes", "has 1025 bytes"]);
     let run = hods(&["find", "several.chm", &long[1..], "\n-"]);
     assert_eq!((run.status, &run.err[..]), (1, ""));
     assert!(run.out().ends_with("\n\\x0a-: absent; chunk 6\n"));
@@ -44,6 +137,9 @@ fn no_book() {
     hods(&["find", "sample.chm"]).bad(2, &["hods --help"]);
     hods(&["find"]).bad(2, &["hods --help"]);
     hods(&["find", "sample.chm", "-x"]).bad(2, &["there is no option -x"]);
+    hods(&["find", "--chain", "chunk.bin", "/"]).bad(1, &["R2"]);
+    hods(&["find", "--chain", "sample.chm"]).bad(2, &["hods --help"]);
+    hods(&["find", "--chain=x", "sample.chm", "/"]).bad(2, &["--chain takes no value"]);
     let run = hods(&["find", "sample.chm", "--", "-x"]);
     assert_eq!((run.status, run.out()), (1, "-x: absent; chunk 0\n"));
 }

@@ -42,8 +42,10 @@ fn a_closed_pipe_is_no_trouble() {
 /// Answers that the status gives are given all the same.
 #[test]
 fn a_closed_pipe_hides_no_answer() {
-    let run = unread(command(&["find", "sample.chm", "/a.htm", "/b"]));
-    assert_eq!((run.status, &run.err[..]), (1, ""));
+    for option in ["--", "--chain"] {
+        let run = unread(command(&["find", option, "sample.chm", "/a.htm", "/b"]));
+        assert_eq!((run.status, &run.err[..]), (1, ""));
+    }
     let run = unread(command(&["check", "sample.chm", "chunk.bin"]));
     assert_eq!(run.status, 1);
     run.says(&["R2"]);

@@ -65,6 +65,8 @@ fn wrong_usage() {
         &["--"],
         &["check", "--no", "sample.chm"],
         &["check", "--quiet=1", "sample.chm"],
+        &["cat", "--chain", "sample.chm", "/"],
+        &["find", "--chains", "sample.chm", "/"],
     ] {
         hods(args).bad(2, &["hods --help"]);
     }

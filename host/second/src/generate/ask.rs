@@ -1,9 +1,11 @@
-//! Lookups, steps and parts: of good books, of broken ones, with made-up records and cursors.
+//! Lookups, scans, steps and parts: of good books, of broken ones, with made-up records and cursors.
 
 mod lookup;
+mod scan;
 mod step;
 
 pub use lookup::{lookup_case, unaskable};
+pub use scan::scan_case;
 pub use step::step_case;
 
 use super::book::book;
@@ -25,7 +27,7 @@ const PART: &str = "part";
 
 pub fn labels() -> Vec<&'static str> {
     let (lookups, steps) = (labels_of(lookup::LOOKUPS), labels_of(step::STEPS));
-    [lookups, steps, vec![PART]].concat()
+    [lookups, scan::labels(), steps, vec![PART]].concat()
 }
 
 /// A record that is refused whatever else is asked (FORMAT K12).

@@ -8,6 +8,7 @@ mod header;
 mod order;
 
 pub use chunk::{Bounds, ENTRY_BREAKS};
+pub(super) use order::{any_number, index_entry, rename, set_next, set_previous};
 
 use super::book::book;
 use super::plan::{Book, Spot};

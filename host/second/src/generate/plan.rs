@@ -8,7 +8,8 @@ use super::Random;
 use crate::chunk::{quick_step, quick_words, CHUNK, INDEX_HEADER, LISTING_HEADER};
 use crate::number::encint;
 use crate::open::{DIRECTORY_GUID, DIRECTORY_HEADER, FILE_GUID_1, FILE_GUID_2};
-use crate::{Record, Report, NONE};
+use crate::{compare, Record, Report, NONE};
+use std::cmp::Ordering;
 
 /// An entry: of a listing chunk with section, offset and length, of an index chunk with a child.
 #[derive(Debug, Clone, PartialEq, Eq)]
@@ -332,21 +333,54 @@ impl Book {
 
     /// What the listing of a good book has to report.
     pub fn reports(&self) -> Vec<Report> {
+        let chain = self.chain();
+        let reports = chain.iter().flat_map(|&number| self.reports_of(number));
+        reports.collect()
+    }
+
+    /// What has to be reported of a good listing chunk.
+    pub fn reports_of(&self, number: u32) -> Vec<Report> {
+        let chunk = &self.chunks[number as usize];
+        let entries = self.chunk_place(number) + LISTING_HEADER;
         let mut reports = Vec::new();
-        for number in self.chain() {
-            let chunk = &self.chunks[number as usize];
-            let entries = self.chunk_place(number) + LISTING_HEADER;
-            for (start, item) in chunk.starts().iter().zip(&chunk.items) {
-                let length = item.name.len() as u64;
-                reports.push(Report {
-                    place: (entries + start + encint(length).len()) as u64,
-                    length,
-                    section: item.fields[0],
-                    offset: item.fields[1],
-                    size: item.fields[2],
-                });
-            }
+        for (start, item) in chunk.starts().iter().zip(&chunk.items) {
+            let length = item.name.len() as u64;
+            reports.push(Report {
+                place: (entries + start + encint(length).len()) as u64,
+                length,
+                section: item.fields[0],
+                offset: item.fields[1],
+                size: item.fields[2],
+            });
         }
         reports
+    }
+
+    /// What has to be reported of the first entry with this name, in good listing chunks that are
+    /// met in this order.
+    pub fn found(&self, met: &[u32], name: &[u8]) -> Option<Report> {
+        met.iter().find_map(|&number| {
+            let items = &self.chunks[number as usize].items;
+            let at = items
+                .iter()
+                .position(|item| compare(&item.name, name) == Ordering::Equal)?;
+            Some(self.reports_of(number)[at])
+        })
+    }
+
+    /// Makes every index chunk a listing chunk of one entry behind the chain's last, so that the
+    /// chain has as many chunks as the book.
+    pub fn list_all(&mut self) {
+        for number in self.indexes() {
+            if let Some(links) = &mut self.chunks[self.last as usize].links {
+                links.1 = number;
+            }
+            let name = [&[0xFF][..], &number.to_be_bytes()].concat();
+            self.chunks[number as usize] = Planned {
+                links: Some((self.last, NONE)),
+                items: vec![Item::new(&name, &[1, 0, 0])],
+            };
+            self.last = number;
+        }
     }
 }

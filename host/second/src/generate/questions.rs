@@ -12,6 +12,7 @@ pub fn questions(random: &mut Random, case: &Case) -> Vec<Call> {
         Call::Write(input) => outputs(random, input),
         Call::Open | Call::Part { .. } => about(random, &case.file, None),
         Call::Lookup { record, .. }
+        | Call::Scan { record, .. }
         | Call::Start { record }
         | Call::Step { record, .. }
         | Call::Page { record, .. } => about(random, &case.file, Some(*record)),
@@ -48,7 +49,7 @@ pub fn about(random: &mut Random, file: &[u8], given: Option<Record>) -> Vec<Cal
         calls.extend(book.every_name(random));
     }
     for _ in 0..6 {
-        calls.push(book.lookup(random, &names));
+        calls.extend(book.searches(random, &names));
         calls.push(book.step(random));
         calls.push(book.page(random));
     }
@@ -104,6 +105,20 @@ fn shapeless(random: &mut Random) -> Record {
     }
 }
 
+/// A lookup and a scan.
+fn searches(record: Record, name: Vec<u8>, places: usize) -> [Call; 2] {
+    let scan = Call::Scan {
+        record,
+        name: name.clone(),
+    };
+    let lookup = Call::Lookup {
+        record,
+        name,
+        places,
+    };
+    [lookup, scan]
+}
+
 /// Bytes, and the record that they are asked with for the most part.
 struct Bytes<'a> {
     file: &'a [u8],
@@ -152,7 +167,8 @@ impl Bytes<'_> {
         names
     }
 
-    fn lookup(&self, random: &mut Random, names: &[Vec<u8>]) -> Call {
+    /// A lookup, and a scan for the same name with the same record.
+    fn searches(&self, random: &mut Random, names: &[Vec<u8>]) -> [Call; 2] {
         let name = match random.below(10) {
             0 => unaskable(random),
             1 => any_name(random),
@@ -166,15 +182,13 @@ impl Bytes<'_> {
                 }
             }
         };
-        Call::Lookup {
-            record: self.some_record(random),
-            name,
-            places: match random.below(4) {
-                0 => random.index(8),
-                1 => random.pick(&[6, 7, 16]),
-                _ => 5,
-            },
-        }
+        let record = self.some_record(random);
+        let places = match random.below(4) {
+            0 => random.index(8),
+            1 => random.pick(&[6, 7, 16]),
+            _ => 5,
+        };
+        searches(record, name, places)
     }
 
     /// All names of a chunk, and one near each.
@@ -189,12 +203,8 @@ impl Bytes<'_> {
             let name = part(self.file, report.place, report.length);
             names.extend([name.to_vec(), near_miss(random, name)]);
         }
-        let lookup = |name| Call::Lookup {
-            record: self.record,
-            name,
-            places: 5,
-        };
-        names.into_iter().map(lookup).collect()
+        let searches = |name| searches(self.record, name, 5);
+        names.into_iter().flat_map(searches).collect()
     }
 
     fn step(&self, random: &mut Random) -> Call {

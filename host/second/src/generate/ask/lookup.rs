@@ -10,13 +10,13 @@ use crate::generate::{choose, Aim, Call, Case, Kind, Random};
 use crate::Record;
 
 /// A name of the book, as it stands there.
-fn present(random: &mut Random, book: &Book) -> Vec<u8> {
+pub(super) fn present(random: &mut Random, book: &Book) -> Vec<u8> {
     let items = book.items();
     random.pick(&items).name.clone()
 }
 
 /// A name that may be asked for: present, folded, a near miss or any.
-fn askable(random: &mut Random, book: &Book) -> Vec<u8> {
+pub(super) fn askable(random: &mut Random, book: &Book) -> Vec<u8> {
     let name = present(random, book);
     match random.below(4) {
         0 => name,

@@ -13,7 +13,7 @@ fn long_chain(book: &Book, least: usize) -> Option<Vec<u32>> {
     (chain.len() >= least).then_some(chain)
 }
 
-fn set_previous(book: &mut Book, chunk: u32, previous: u32) -> Option<u32> {
+pub fn set_previous(book: &mut Book, chunk: u32, previous: u32) -> Option<u32> {
     let links = book.chunks[chunk as usize].links.as_mut()?;
     if links.0 == previous {
         return None;
@@ -22,7 +22,7 @@ fn set_previous(book: &mut Book, chunk: u32, previous: u32) -> Option<u32> {
     NOWHERE
 }
 
-fn set_next(book: &mut Book, chunk: u32, next: u32) -> Option<u32> {
+pub fn set_next(book: &mut Book, chunk: u32, next: u32) -> Option<u32> {
     let links = book.chunks[chunk as usize].links.as_mut()?;
     if links.1 == next {
         return None;
@@ -32,14 +32,14 @@ fn set_next(book: &mut Book, chunk: u32, next: u32) -> Option<u32> {
 }
 
 /// Any number where a chunk number is expected, mostly a bad one.
-fn any_number(random: &mut Random, book: &Book) -> u32 {
+pub fn any_number(random: &mut Random, book: &Book) -> u32 {
     let inside = random.index(book.chunks.len()) as u32;
     let count = book.count();
     random.pick(&[inside, inside, count, count + 1, 0x8000_0000, NONE - 1])
 }
 
 /// An index chunk and a place in it, if there are that many entries.
-fn index_entry(random: &mut Random, book: &Book, least: usize) -> Option<(u32, usize)> {
+pub fn index_entry(random: &mut Random, book: &Book, least: usize) -> Option<(u32, usize)> {
     let indexes = book.indexes();
     if indexes.is_empty() {
         return None;
@@ -50,7 +50,7 @@ fn index_entry(random: &mut Random, book: &Book, least: usize) -> Option<(u32, u
 }
 
 /// Gives an index entry another name that still rises between its neighbours.
-fn rename(book: &mut Book, chunk: u32, at: usize, name: Vec<u8>) -> Option<u32> {
+pub fn rename(book: &mut Book, chunk: u32, at: usize, name: Vec<u8>) -> Option<u32> {
     let mut changed = book.chunks[chunk as usize].clone();
     changed.items[at].name = name;
     let names: Vec<&Vec<u8>> = changed.items.iter().map(|item| &item.name).collect();

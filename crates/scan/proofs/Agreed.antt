@@ -1,0 +1,54 @@
+-- On a book that opening accepts, the search along the chain replies what lookup answers, for every name: `engines-agree`.
+-- And a refusal is 15 or 17, with no chunk: `scan-refusal`.
+-- Assumes nothing.
+use mathlib.Core.Path.{_≡_, sym, ap, _∙_}
+use mathlib.Core.Logic.{_⊎_, inl, inr}
+use mathlib.Core.Bool.{Bool, true, false, cond}
+use mathlib.Core.List.{List}
+use Prim.Native.Nat.{ℕ, _≤_}
+use native.Mathlib.Omega.{arith}
+use Rattle.names.specs.Names.{askable}
+use Rattle.header.specs.declared.Record.{Record}
+use Rattle.tree.specs.Descent.{Outcome, found, absent, refused}
+use Rattle.tree.proofs.Reading.{plain-same}
+use Rattle.book.specs.Book.{directoryOf, shapeOf, bookFits, refusalOf}
+use Rattle.book.specs.declared.Refusal.{Refusal}
+use Rattle.directory.specs.Opened.{opened}
+use Rattle.directory.specs.declared.Opened.the-variants.{Book}
+use Rattle.directory.proofs.Accepted.{opened-book}
+use Rattle.lookup.specs.Lookup.{lookedUp}
+use Rattle.lookup.specs.Reply.{replyTo, repliedTo, replyOf, SameAsLookup}
+use Rattle.lookup.specs.declared.Reply.{Reply}
+use Rattle.lookup.specs.declared.Reply.the-variants.{Refused}
+use Rattle.lookup.proofs.Replies.{looked-reply}
+use Rattle.scan.specs.Scan.{plainIn, scanned}
+use Rattle.scan.specs.Complete.{CompleteOnChain}
+use Rattle.scan.proofs.Completed.{scan-complete}
+
+pub engines-agree : (s : List ℕ) (book : Record) (name : List ℕ) → opened s ≡ Book book → (places : ℕ) → 5 ≤ places
+    → scanned s book name ≡ replyOf (lookedUp s book name places)
+unfolding scanned
+engines-agree s book name accepts places h =
+    ap (repliedTo s book name) (plain-same (directoryOf s book) (shapeOf book) (opened-book s book accepts .directory) name)
+    ∙ sym (looked-reply s book name places h)
+
+-- the clauses of `scan`
+abbrev pub Promised : List ℕ → Record → List ℕ → Reply → Type 0
+Promised s book name r = (r ≡ scanned s book name) × (SameAsLookup s book name r × CompleteOnChain s book name r)
+
+pub promised : (s : List ℕ) (book : Record) (name : List ℕ) (r : Reply) → r ≡ scanned s book name → Promised s book name r
+promised s book name r p = (p, (λ o places h. p ∙ engines-agree s book name o places h, rw p (scan-complete s book name)))
+
+-- ---- a refusal
+
+pub scan-refusal : (s : List ℕ) (book : Record) (name : List ℕ) (x : Refusal) → scanned s book name ≡ Refused x → (x ≡ refusalOf 15) ⊎ (x ≡ refusalOf 17)
+unfolding scanned repliedTo
+scan-refusal s book name x = go (askable name) (bookFits s book) (plainIn s book name)
+  where
+    go : (a b : Bool) (o : Outcome) → cond a (cond b (replyTo book o) (Refused (refusalOf 17))) (Refused (refusalOf 15)) ≡ Refused x
+        → (x ≡ refusalOf 15) ⊎ (x ≡ refusalOf 17)
+    go true true (found c e) q = absurd (let z : _≡_ {A = ℕ} 0 1 = cc in omega arith)
+    go true true absent q = absurd (let z : _≡_ {A = ℕ} 0 1 = cc in omega arith)
+    go true true refused q = let z : refusalOf 17 ≡ x = cc in inr (sym z)
+    go true false o q = let z : refusalOf 17 ≡ x = cc in inr (sym z)
+    go false b o q = let z : refusalOf 15 ≡ x = cc in inl (sym z)
