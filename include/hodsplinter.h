@@ -28,7 +28,8 @@ uint64_t hods_lookup(const uint8_t *file, size_t len, const uint64_t record[HODS
 
 /* The same search along the chain from the first listing chunk, with no index entry followed and no trail. 0 found: the answer is the name's place, its
    length, section, offset, length. 255 absent or else the refusal, 15 or 17, with nothing changed. On a book that opens, with its record, it answers what
-   hods_lookup does with a trail of at least 5 places. */
+   hods_lookup does with a trail of at least 5 places. On one that hods_open refuses by 14, with the numbers of its headers for a record, it finds exactly
+   what is there. */
 uint64_t hods_scan(const uint8_t *file, size_t len, const uint64_t record[HODS_RECORD], const uint8_t *name, size_t name_len, uint64_t answer[5]);
 
 /* 0 and the cursor at the start of the listing. */
