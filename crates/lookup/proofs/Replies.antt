@@ -1,18 +1,54 @@
--- A search that on an opened book comes to the descent's outcome replies what lookup answers.
+-- What a search without a trail replies: by the checks of name and record (`replied-name`, `replied-record`, `replied-search`), by which refusals
+-- (`replied-refusal`), and what lookup answers where it comes to the descent's outcome (`looked-reply`).
 -- Assumes nothing.
-use mathlib.Core.Path.{_≡_, refl}
+use mathlib.Core.Path.{_≡_, refl, sym}
+use mathlib.Core.Logic.{_⊎_, inl, inr}
 use mathlib.Core.Bool.{Bool, true, false, cond}
 use mathlib.Core.List.{List}
 use Prim.Native.Nat.{ℕ, _≤_}
+use native.Mathlib.Omega.{arith}
 use borrow.Author.Tests.{le-leb}
 use Rattle.names.specs.Names.{askable}
 use Rattle.header.specs.declared.Record.{Record}
 use Rattle.tree.specs.Descent.{Outcome, found, absent, refused}
 use Rattle.book.specs.Book.{refusalOf, bookFits}
+use Rattle.book.specs.declared.Refusal.{Refusal}
 use Rattle.lookup.specs.Lookup.{outcomeIn, countIn, answerOf, lookedUp}
 use Rattle.lookup.specs.Reply.{replyTo, repliedTo, replyOf}
 use Rattle.lookup.specs.declared.Answer.{Answer}
 use Rattle.lookup.specs.declared.Reply.the-variants.{Refused}
+
+module _ (s : List ℕ) (book : Record) (name : List ℕ) (o : Outcome) where
+  -- ---- the checks
+
+  pub replied-name : askable name ≡ false → repliedTo s book name o ≡ Refused (refusalOf 15)
+  unfolding repliedTo
+  replied-name h = rw h refl
+
+  module _ (good : askable name ≡ true) where
+    pub replied-record : bookFits s book ≡ false → repliedTo s book name o ≡ Refused (refusalOf 17)
+    unfolding repliedTo
+    replied-record h = rw (good, h) refl
+
+    pub replied-search : bookFits s book ≡ true → repliedTo s book name o ≡ replyTo book o
+    unfolding repliedTo
+    replied-search h = rw (good, h) refl
+
+  -- ---- a refusal
+
+  pub replied-refusal : (x : Refusal) → repliedTo s book name o ≡ Refused x → (x ≡ refusalOf 15) ⊎ (x ≡ refusalOf 17)
+  unfolding repliedTo
+  replied-refusal x = go (askable name) (bookFits s book) o
+    where
+      go : (a b : Bool) (o : Outcome) → cond a (cond b (replyTo book o) (Refused (refusalOf 17))) (Refused (refusalOf 15)) ≡ Refused x
+          → (x ≡ refusalOf 15) ⊎ (x ≡ refusalOf 17)
+      go true true (found c e) q = absurd (let z : _≡_ {A = ℕ} 0 1 = cc in omega arith)
+      go true true absent q = absurd (let z : _≡_ {A = ℕ} 0 1 = cc in omega arith)
+      go true true refused q = let z : refusalOf 17 ≡ x = cc in inr (sym z)
+      go true false o q = let z : refusalOf 17 ≡ x = cc in inr (sym z)
+      go false b o q = let z : refusalOf 15 ≡ x = cc in inl (sym z)
+
+-- ---- lookup's answer
 
 reply-answer : (book : Record) (n : ℕ) (o : Outcome) → replyOf (answerOf book n o) ≡ replyTo book o
 reply-answer book n (found c e) = refl

@@ -2,25 +2,21 @@
 -- And a refusal is 15 or 17, with no chunk: `scan-refusal`.
 -- Assumes nothing.
 use mathlib.Core.Path.{_≡_, sym, ap, _∙_}
-use mathlib.Core.Logic.{_⊎_, inl, inr}
-use mathlib.Core.Bool.{Bool, true, false, cond}
+use mathlib.Core.Logic.{_⊎_}
 use mathlib.Core.List.{List}
 use Prim.Native.Nat.{ℕ, _≤_}
-use native.Mathlib.Omega.{arith}
-use Rattle.names.specs.Names.{askable}
 use Rattle.header.specs.declared.Record.{Record}
-use Rattle.tree.specs.Descent.{Outcome, found, absent, refused}
 use Rattle.tree.proofs.Reading.{plain-same}
-use Rattle.book.specs.Book.{directoryOf, shapeOf, bookFits, refusalOf}
+use Rattle.book.specs.Book.{directoryOf, shapeOf, refusalOf}
 use Rattle.book.specs.declared.Refusal.{Refusal}
 use Rattle.directory.specs.Opened.{opened}
 use Rattle.directory.specs.declared.Opened.the-variants.{Book}
 use Rattle.directory.proofs.Accepted.{opened-book}
 use Rattle.lookup.specs.Lookup.{lookedUp}
-use Rattle.lookup.specs.Reply.{replyTo, repliedTo, replyOf, SameAsLookup}
+use Rattle.lookup.specs.Reply.{repliedTo, replyOf, SameAsLookup}
 use Rattle.lookup.specs.declared.Reply.{Reply}
 use Rattle.lookup.specs.declared.Reply.the-variants.{Refused}
-use Rattle.lookup.proofs.Replies.{looked-reply}
+use Rattle.lookup.proofs.Replies.{looked-reply, replied-refusal}
 use Rattle.scan.specs.Scan.{plainIn, scanned}
 use Rattle.scan.specs.Complete.{CompleteOnChain}
 use Rattle.scan.proofs.Completed.{scan-complete}
@@ -42,13 +38,5 @@ promised s book name r p = (p, (λ o places h. p ∙ engines-agree s book name o
 -- ---- a refusal
 
 pub scan-refusal : (s : List ℕ) (book : Record) (name : List ℕ) (x : Refusal) → scanned s book name ≡ Refused x → (x ≡ refusalOf 15) ⊎ (x ≡ refusalOf 17)
-unfolding scanned repliedTo
-scan-refusal s book name x = go (askable name) (bookFits s book) (plainIn s book name)
-  where
-    go : (a b : Bool) (o : Outcome) → cond a (cond b (replyTo book o) (Refused (refusalOf 17))) (Refused (refusalOf 15)) ≡ Refused x
-        → (x ≡ refusalOf 15) ⊎ (x ≡ refusalOf 17)
-    go true true (found c e) q = absurd (let z : _≡_ {A = ℕ} 0 1 = cc in omega arith)
-    go true true absent q = absurd (let z : _≡_ {A = ℕ} 0 1 = cc in omega arith)
-    go true true refused q = let z : refusalOf 17 ≡ x = cc in inr (sym z)
-    go true false o q = let z : refusalOf 17 ≡ x = cc in inr (sym z)
-    go false b o q = let z : refusalOf 15 ≡ x = cc in inl (sym z)
+unfolding scanned
+scan-refusal s book name x = replied-refusal s book name (plainIn s book name) x

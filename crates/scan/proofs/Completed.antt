@@ -21,10 +21,10 @@ use Rattle.directory.specs.declared.Opened.{Opened}
 use Rattle.directory.proofs.Accepted.{head-fits}
 use Rattle.directory.proofs.Refusals.{refusal-told}
 use Rattle.lookup.specs.Reply.{replyTo}
+use Rattle.lookup.proofs.Replies.{replied-search}
 use Rattle.lookup.specs.declared.Reply.the-variants.{Refused}
 use Rattle.scan.specs.Scan.{plainIn, scanned}
 use Rattle.scan.specs.Complete.{ChainComplete, CompleteOnChain}
-use Rattle.scan.proofs.Steps.{searches}
 
 module _ (s : List ℕ) (book : Record) (name : List ℕ) (d : PlainDemand (directoryOf s book) (shapeOf book) name) where
   -- by what the search comes to
@@ -45,8 +45,9 @@ module _ (s : List ℕ) (book : Record) (name : List ℕ) (d : PlainDemand (dire
   complete-for refused q = absurd (d .never-refused q)
 
 pub scan-complete : (s : List ℕ) (book : Record) (name : List ℕ) → CompleteOnChain s book name (scanned s book name)
+unfolding scanned
 scan-complete s book name a f c =
-    rw (searches s book name a f) (complete-for s book name (plain-demand (directoryOf s book) (shapeOf book) c name) (plainIn s book name) refl)
+    rw (replied-search s book name (plainIn s book name) a f) (complete-for s book name (plain-demand (directoryOf s book) (shapeOf book) c name) (plainIn s book name) refl)
 
 -- ---- a book that opening refuses by 14, for its index alone
 

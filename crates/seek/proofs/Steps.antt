@@ -21,10 +21,10 @@ use Rattle.seek.specs.Seek.{byOrder, groupAbove, groupFrom, findAt, choo
 use Rattle.seek.specs.declared.Hit.{Hit}
 use Rattle.seek.specs.declared.Hit.the-variants.{At, Nothing}
 
-some-left : {A : Type 0} (f : ℕ → A) (left : ℕ) → 0 < left → f left ≡ f (suc (left - 1))
+pub some-left : {A : Type 0} (f : ℕ → A) (left : ℕ) → 0 < left → f left ≡ f (suc (left - 1))
 some-left f left h = ap f (omega arith)
 
-none-left : {A : Type 0} (f : ℕ → A) (left : ℕ) → left ≤ 0 → f left ≡ f 0
+pub none-left : {A : Type 0} (f : ℕ → A) (left : ℕ) → left ≤ 0 → f left ≡ f 0
 none-left f left h = ap f (omega arith)
 
 module _ (limits : Limits) (s name : List ℕ) (left at : ℕ) where

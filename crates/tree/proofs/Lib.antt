@@ -15,3 +15,4 @@ pub mod Walked
 pub mod Steps
 pub mod Examples
 pub mod Reading
+pub mod Plain

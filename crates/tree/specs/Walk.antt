@@ -1,5 +1,6 @@
 -- Chain and tree as code with no heap checks them: by counting down, and by a walk over the leaves along the chain.
--- The laws `chain-run` and `tree-walk` of proofs/ say that these accept exactly what `chainOk` and `treeOk` accept.
+-- The laws `chain-run` and `tree-walk` of proofs/ say that these accept exactly what `chainOk` and `treeOk` accept. And the plain search as a loop takes it,
+-- chunk by chunk: `plain-whole`.
 -- Assumes nothing.
 use mathlib.Core.Bool.{Bool, false, cond, _&&_}
 use mathlib.Core.List.{List, [], _∷_}
@@ -11,6 +12,8 @@ use Rattle.chunk.specs.Chunk.{Entry, Parsed, entriesIn}
 use Rattle.tree.specs.Lists.{countBelow}
 use Rattle.tree.specs.Shape.{Shape, noChunk, isListing, isIndex, previousOf, nextOf, firstName, lastName, listingChunk, indexChunk}
 use Rattle.tree.specs.Tree.{top}
+use Rattle.tree.specs.Descent.{Outcome}
+use Rattle.tree.specs.Reading.{readFrom, firstEqual}
 
 -- how many chunks below the count are of a kind
 abbrev pub listings : (ℕ → Parsed) → Shape → ℕ
@@ -71,3 +74,8 @@ module _ (D : ℕ → Parsed) (H : Shape) where
 
   unfoldable pub treeWalkOk : Bool
   treeWalkOk = arrived (walk (H .depth) (top H) (H .first) (indexes D H))
+
+-- ---- the plain search from chunk c on, n chunks at most
+
+unfoldable pub plainFrom : (ℕ → Parsed) → Shape → List ℕ → ℕ → ℕ → Outcome
+plainFrom D H name n c = firstEqual name (readFrom D H n c .entries) (readFrom D H n c .whole)

@@ -5,8 +5,9 @@ use borrow.Author.Needs.{needs}
 use Rattle.fields.proofs.Tests.{held, failed}
 use Rattle.names.specs.Names.{askable}
 use Rattle.lookup.specs.declared.Reply.the-variants.{Refused}
+use Rattle.lookup.proofs.Replies.{replied-name, replied-record, replied-search}
+use Rattle.scan.specs.Scan.{scanned}
 use Rattle.scan.proofs.Agreed.{promised}
-use Rattle.scan.proofs.Steps.{name-bad, record-bad, searches}
 use Rattle.scan.proofs.scan.Statement.{statement}
 use Rattle.scan.proofs.scan.Tie as tie
 
@@ -20,11 +21,12 @@ refuse-requires : tie.Need-refuse-requires
 refuse-requires c κs = search needs
 
 returns : tie.Need-returns
+unfolding scanned
 returns c =
     let n = c .before .before .before in
     let a = n .before .before .before .args in
     promised (now (a .file)) (a .book) (now (a .name)) _
-    (ap (λ x. Refused x) (c .refuse .ensures) ∙ sym (name-bad (now (a .file)) (a .book) (now (a .name)) (failed (n .is-askable .ensures) (c .before .if1 .taken))))
+    (ap (λ x. Refused x) (c .refuse .ensures) ∙ sym (replied-name (now (a .file)) (a .book) (now (a .name)) _ (failed (n .is-askable .ensures) (c .before .if1 .taken))))
 
 -- behind the first check the name can be asked
 good-name : (c : tie.Else1) → askable (now (c .before .before .before .before .before .args .name)) ≡ true
@@ -34,23 +36,25 @@ refuse-requires-2 : tie.Need-refuse-requires-2
 refuse-requires-2 c κs = search needs
 
 returns-2 : tie.Need-returns-2
+unfolding scanned
 returns-2 c =
     let e = c .before .before in
     let a = e .before .before .before .before .before .args in
     promised (now (a .file)) (a .book) (now (a .name)) _
     (ap (λ x. Refused x) (c .refuse2 .ensures)
-    ∙ sym (record-bad (now (a .file)) (a .book) (now (a .name)) (good-name e) (failed (e .before .fits2 .ensures) (c .before .if2 .taken))))
+    ∙ sym (replied-record (now (a .file)) (a .book) (now (a .name)) _ (good-name e) (failed (e .before .fits2 .ensures) (c .before .if2 .taken))))
 
 scan-chain-requires : tie.Need-scan-chain-requires
 scan-chain-requires c κs = search needs
 
 returns-3 : tie.Need-returns-3
+unfolding scanned
 returns-3 c =
     let e = c .before .before in
     let a = e .before .before .before .before .before .args in
     promised (now (a .file)) (a .book) (now (a .name)) _
     (c .scan-chain .ensures
-    ∙ sym (searches (now (a .file)) (a .book) (now (a .name)) (good-name e) (held (e .before .fits2 .ensures) (c .before .if2 .left))))
+    ∙ sym (replied-search (now (a .file)) (a .book) (now (a .name)) _ (good-name e) (held (e .before .fits2 .ensures) (c .before .if2 .left))))
 
 pub scan-spec : {M : Type 1} → statement M
 scan-spec =

@@ -5,20 +5,21 @@ use borrow.Author.Needs.{needs}
 use Rattle.lookup.specs.Reply.{replyTo}
 use Rattle.lookup.specs.declared.Reply.the-variants.{Refused}
 use Rattle.scan.specs.Scan.{plainIn}
-use Rattle.scan.specs.Step.{plainFrom}
-use Rattle.scan.proofs.Steps.{turn-here, turn-end, turn-on, turn-barred, turn-none, whole-is}
+use Rattle.tree.proofs.Plain.{plain-whole}
+use Rattle.book.specs.Book.{directoryOf, shapeOf}
+use Rattle.scan.proofs.Steps.{turn-here, turn-end, turn-on, turn-barred, turn-none, plainAt}
 use Rattle.scan.proofs.scan_chain.Statement.{statement}
 use Rattle.scan.proofs.scan_chain.Tie as tie
 
 -- from the chunk that is reached it comes to the same
 abbrev Inv-loop : tie.InvT-loop
-Inv-loop file book name c₀ left₀ c left = replyTo book (plainFrom file book name left c) ≡ replyTo book (plainIn file book name)
+Inv-loop file book name c₀ left₀ c left = replyTo book (plainAt file book name left c) ≡ replyTo book (plainIn file book name)
 
 abbrev μ-loop : tie.MeasureT-loop
 μ-loop file book name c₀ left₀ c left = left
 
 loop-holds : tie.Need-loop-holds Inv-loop μ-loop
-loop-holds c = let a = c .before .before .args in ap (replyTo (a .book)) (whole-is (now (a .file)) (a .book) (now (a .name)))
+loop-holds c = let a = c .before .before .args in ap (replyTo (a .book)) (plain-whole (directoryOf (now (a .file)) (a .book)) (shapeOf (a .book)) (now (a .name)))
 
 search-in-requires : tie.Need-search-in-requires Inv-loop μ-loop
 search-in-requires c κs = search needs
