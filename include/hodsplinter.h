@@ -32,6 +32,17 @@ uint64_t hods_lookup(const uint8_t *file, size_t len, const uint64_t record[HODS
    what is there. */
 uint64_t hods_scan(const uint8_t *file, size_t len, const uint64_t record[HODS_RECORD], const uint8_t *name, size_t name_len, uint64_t answer[5]);
 
+/* The lookup in a book that was opened: the same descent, with no chunk checked again and no trail. It answers as hods_scan. Where hods_open gave this record
+   for these bytes, it answers what hods_lookup does with a trail of at least 5 places. On any other bytes, those too that changed since they were opened, an
+   absent is worth nothing: the name may be there. What it finds stands at the place it tells all the same, and nothing outside what is lent is read. */
+uint64_t hods_lookup_opened(const uint8_t *file, size_t len, const uint64_t record[HODS_RECORD], const uint8_t *name, size_t name_len, uint64_t answer[5]);
+
+/* Opens the book and looks many names up in it. They stand one behind another in names, each an ENCINT of its length and its bytes. 0 with 32 bytes a name at
+   the front of answers, in the order of the names: four little-endian numbers of 64 bits, status (0 found, 255 absent, 15 for a name of 0 bytes or more
+   than 1,024), section, offset, length, the last three 0 unless found; later bytes stay. Each is what hods_lookup gives for that name. Else the refusal:
+   that of hods_open, or 22 where a name is cut off, its length is no good ENCINT, or answers is too short. No names need no answers. */
+uint64_t hods_batch(const uint8_t *file, size_t len, const uint8_t *names, size_t names_len, uint8_t *answers, size_t answers_len);
+
 /* 0 and the cursor at the start of the listing. */
 uint64_t hods_start(const uint64_t record[HODS_RECORD], uint64_t cursor[2]);
 

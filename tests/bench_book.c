@@ -76,6 +76,8 @@ static void *call_open(void *x) { hods_open(the_file, the_len, the_record); retu
 static void *call_page(void *x) { uint64_t next[2]; hods_chunk(the_file, the_len, the_record, the_record[8], page, 4070, next); return x; }
 static void *call_lookup(void *x) { uint32_t trail[5]; uint64_t answer[6]; hods_lookup(the_file, the_len, the_record, (const uint8_t *)"~", 1, trail, 5, answer); return x; }
 static void *call_scan(void *x) { uint64_t answer[5]; hods_scan(the_file, the_len, the_record, (const uint8_t *)"~", 1, answer); return x; }
+static void *call_opened(void *x) { uint64_t answer[5]; hods_lookup_opened(the_file, the_len, the_record, (const uint8_t *)"~", 1, answer); return x; }
+static void *call_batch(void *x) { uint8_t answers[32]; hods_batch(the_file, the_len, (const uint8_t *)"\1~", 2, answers, 32); return x; }
 static void *call_write(void *x) { write_head(the_record, the_len); return x; }
 static void *call_nothing(void *x) { return x; }
 
@@ -151,8 +153,8 @@ int main(int argc, char **argv) {
     the_len = len;
     size_t idle = deepest(call_nothing);
     size_t open_stack = deepest(call_open) - idle, page_stack = deepest(call_page) - idle, lookup_stack = deepest(call_lookup) - idle;
-    size_t scan_stack = deepest(call_scan) - idle, write_stack = deepest(call_write) - idle;
-    printf("peak stack: open %zu bytes, page %zu bytes, lookup %zu bytes, scan %zu bytes, write %zu bytes\n", open_stack, page_stack, lookup_stack, scan_stack,
-           write_stack);
+    size_t scan_stack = deepest(call_scan) - idle, opened_stack = deepest(call_opened) - idle, batch_stack = deepest(call_batch) - idle, write_stack = deepest(call_write) - idle;
+    printf("peak stack: open %zu bytes, page %zu bytes, lookup %zu bytes, scan %zu bytes, lookup in an opened book %zu bytes, batch %zu bytes, write %zu bytes\n", open_stack,
+           page_stack, lookup_stack, scan_stack, opened_stack, batch_stack, write_stack);
     return 0;
 }

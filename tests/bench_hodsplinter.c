@@ -4,8 +4,8 @@
 #include "../include/hodsplinter.h"
 
 static uint64_t record[HODS_RECORD], page[4070];
-static uint8_t *entries, *head;
-static size_t entries_len, head_len;
+static uint8_t *entries, *head, *names, *answers;
+static size_t entries_len, head_len, names_len, answers_len;
 
 static size_t encint_len(uint64_t n) {
     size_t len = 1;
@@ -29,9 +29,23 @@ static void gather(void) {
     head = malloc(head_len);
 }
 
+/* The names that are there as a batch takes them, each behind the ENCINT of its length, and room for their answers. */
+static void gather_names(void) {
+    for (size_t i = 0; i < there_count; i++) names_len += encint_len(there[i].len) + there[i].len;
+    uint8_t *to = names = malloc(names_len);
+    for (size_t i = 0; i < there_count; i++) {
+        for (size_t left = encint_len(there[i].len); left--;) *to++ = (uint8_t)(there[i].len >> 7 * left & 127) | (left ? 128 : 0);
+        memcpy(to, there[i].text, there[i].len);
+        to += there[i].len;
+    }
+    answers_len = 32 * there_count;
+    answers = malloc(answers_len);
+}
+
 static void ready(void) {
     if (hods_open(book, book_len, record)) fail("refused");
     gather();
+    gather_names();
 }
 
 void measure_open(void) {
@@ -65,6 +79,31 @@ void measure_find_miss(void) {
         if (hods_lookup(book, book_len, record, (const uint8_t *)missing[i].text, missing[i].len, trail, 5, answer) != 255) fail("found");
 }
 
+void measure_opened_hit(void) {
+    uint64_t answer[5];
+    for (size_t i = 0; i < there_count; i++) {
+        if (hods_lookup_opened(book, book_len, record, (const uint8_t *)there[i].text, there[i].len, answer) != 0) fail("not found");
+        kept += answer[3];
+    }
+}
+
+void measure_opened_miss(void) {
+    uint64_t answer[5];
+    for (size_t i = 0; i < missing_count; i++)
+        if (hods_lookup_opened(book, book_len, record, (const uint8_t *)missing[i].text, missing[i].len, answer) != 255) fail("found");
+}
+
+/* Opening, and the names that are there in one call. */
+void measure_batch(void) {
+    uint64_t offset;
+    if (hods_batch(book, book_len, names, names_len, answers, answers_len)) fail("refused");
+    for (size_t i = 0; i < there_count; i++) {
+        if (answers[32 * i]) fail("not found");
+        memcpy(&offset, answers + 32 * i + 16, 8);
+        kept += offset;
+    }
+}
+
 /* One name that is not there, along the whole chain. */
 void measure_scan(void) {
     uint64_t answer[5];
@@ -91,6 +130,7 @@ void measure_write(void) {
 
 int main(int argc, char **argv) {
     static const struct measure all[] = {{"open", measure_open}, {"open_path", measure_open_path}, {"find_hit", measure_find_hit}, {"find_miss", measure_find_miss},
+                                         {"opened_hit", measure_opened_hit}, {"opened_miss", measure_opened_miss}, {"batch", measure_batch},
                                          {"scan", measure_scan}, {"list", measure_list},           {"write", measure_write}};
     int status = measured(argc, argv, "hodsplinter", all, sizeof all / sizeof *all, ready);
     /* the books for measuring have the head that the writer makes */

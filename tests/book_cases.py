@@ -1,6 +1,7 @@
 """Whole books on both sides of each rule, with answers set by hand from docs/FORMAT.md, and books with random damage.
 
   cases()        (what, rows, data, answer); an answer is 'book' or (number, place)
+  batch_cases()  (what, rows, data, names, room, answer); an answer is the bytes of the answers or (number, place)
   damaged(r)     (what, data) of a random book with some damage
 """
 
@@ -450,6 +451,30 @@ def cases():
                       entries, chains, trees):
             group()
     return made
+
+
+def batch_cases():
+    book = plain().build()
+    refused = put(book, 204, b'?')
+    five = b'\x01/' + b'\x06/A.HTM' + b'\x02/b' + b'\x00' + b'\x88\x01' + b'x' * 1025
+    numbers = (0, 0, 0, 0), (0, 0, 0, 5), (255, 0, 0, 0), (15, 0, 0, 0), (15, 0, 0, 0)
+    told = b''.join(n.to_bytes(8, 'little') for answer in numbers for n in answer)
+    return [
+        ('two names of the book, one that it lacks, one empty, one too long', 'B3, B4, B6', book, five, 160, told),
+        ('room to spare', 'B5', book, five, 161, told),
+        ('one byte too little room', 'B5, R22', book, five, 159, (22, NONE)),
+        ('no room', 'B5, R22', book, five, 0, (22, NONE)),
+        ('no names, no room', 'B5', book, b'', 0, b''),
+        ('no names, some room', 'B5', book, b'', 7, b''),
+        ('the last byte of the names is missing', 'B2, R22', book, five[:-1], 160, (22, NONE)),
+        ('one name whole, the next cut off', 'B2, B7', book, b'\x01/\x02/', 64, (22, NONE)),
+        ('a length cut off', 'B2, N6', book, b'\x01/\x81', 64, (22, NONE)),
+        ('a length of 80 01', 'B2, N4', book, b'\x80\x01/', 64, (22, NONE)),
+        ('a length of 2^63 - 1', 'B2, N3', book, b'\xff' * 8 + b'\x7f', 64, (22, NONE)),
+        ('a length of ten bytes', 'B2, N3', book, b'\xff' * 9 + b'\x7f', 64, (22, NONE)),
+        ('a refused book, names that are none, no room', 'RO10', refused, b'\x80\x01', 0, (8, 0)),
+        ('a refused book, no names', 'RO10', refused, b'', 0, (8, 0)),
+        ('no book, good names', 'RO10', b'', five, 160, (1, NONE))]
 
 
 # Random damage. Each function changes the builder, or returns the bytes.

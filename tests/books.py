@@ -7,6 +7,7 @@ code with the library. One chunk by itself is judged by chunks.py.
   opened                         the record of a book, or why it is refused
   step, walk, listing            the entries, by the cursor
   lookup                         the descent for a name
+  batch                          many names at once
   lent                           a part of the book
   frames                         what the program `list` prints
   random_book                    a builder with random options
@@ -19,7 +20,7 @@ the file, length of the name, section, offset, length). A refusal is
 from functools import lru_cache
 
 from chunks import (CHUNK, HEADER, INDEX, LISTING, NONE, build_index, build_listing, choose,
-                    compare, encode, find, fold, index_entry, listing_entry, nth, quick_count,
+                    compare, decode, encode, find, fold, index_entry, listing_entry, nth, quick_count,
                     verdict)
 
 RECORD = ('version', 'time', 'language', 'directory_start', 'count', 'density', 'depth',
@@ -273,6 +274,43 @@ def lookup(data, record, name, places=5):
     trail.append(number)
     entry = find(part[3], name)
     return ('found', report(record, number, entry), trail) if entry else ('absent', trail)
+
+
+def lined_up(names):
+    """The bytes of these names as a batch takes them (B2)."""
+    return b''.join(encode(len(name)) + bytes(name) for name in names)
+
+
+def names_in(data):
+    """The names that stand one behind another in these bytes, or None where B2 fails."""
+    names, at = [], 0
+    while at < len(data):
+        length = decode(data, at)
+        if length is None or at + length[1] + length[0] > len(data):
+            return None
+        at += length[1]
+        names.append(data[at:at + length[0]])
+        at += length[0]
+    return names
+
+
+def answer_bytes(got):
+    """The answer of a batch for what a lookup said of a name (B4)."""
+    status = {'found': 0, 'absent': 255}.get(got[0], got[1])
+    numbers = got[1][2:] if got[0] == 'found' else (0, 0, 0)
+    return b''.join(n.to_bytes(8, 'little') for n in (status, *numbers))
+
+
+def batch(data, names, room):
+    """('answers', their bytes), or the refusal, for the bytes of names and so
+    many bytes of room (B1 to B6, RO10)."""
+    got = opened(data)
+    if got[0] == 'refused':
+        return got
+    asked = names_in(bytes(names))
+    if asked is None or 32 * len(asked) > room:
+        return refused(22)
+    return 'answers', b''.join(answer_bytes(lookup(data, got[1], name)) for name in asked)
 
 
 def lent(data, place, length):

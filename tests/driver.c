@@ -1,11 +1,15 @@
 /* Asks the library what its standard input says, a line a question, and answers a line each: driver FILE.
      o                               open: the code, and the record for 0
      l RECORD PLACES HEXNAME         lookup with a record and a trail of so many places, all 77 before: the code, six numbers all 88 before, the trail
+     f RECORD HEXNAME                lookup in an opened book, with a record: the code, five numbers all 88 before
      c RECORD HEXNAME                scan with a record: the code, five numbers all 88 before
+     m ROOM HEXNAMES                 batch of names with their lengths into so many bytes: the code, in hexadecimal these bytes and 64 behind them, all 77 before
      s RECORD CHUNK ENTRY            step: the code, the cursor, five numbers all 88 before
      p RECORD CHUNK NUMBERS          page into so many numbers, all 77 before: the code, two numbers all 88 before, a sum over the numbers
      b PLACE LENGTH                  part: its length
-   A name of no bytes is written as a dash. */
+   A name or names of no bytes are written as a dash. */
+#define _POSIX_C_SOURCE 200809L
+
 #include <inttypes.h>
 #include <stdint.h>
 #include <stdio.h>
@@ -14,8 +18,11 @@
 
 #include "../include/hodsplinter.h"
 
-static char line[8192];
-static char *rest;
+/* Bytes behind the room of a batch. */
+enum { BEHIND = 64 };
+
+static char *line, *rest;
+static size_t line_room;
 
 static uint64_t number(void) { return strtoull(rest, &rest, 10); }
 
@@ -23,12 +30,21 @@ static void show(const uint64_t *n, size_t count) {
     for (size_t i = 0; i < count; i++) printf(" %" PRIu64, n[i]);
 }
 
-static size_t name_in(uint8_t *name) {
-    size_t n = 0;
-    while (*rest == ' ') rest++;
-    if (*rest == '-') return 0;
-    for (unsigned b; sscanf(rest, "%2x", &b) == 1; rest += 2) name[n++] = (uint8_t)b;
-    return n;
+/* So many bytes, or the program ends. */
+static void *taken(size_t n) {
+    void *bytes = malloc(n ? n : 1);
+    if (!bytes) exit(2);
+    return bytes;
+}
+
+/* The bytes at the end of the line, in memory of just their number: what watches memory then sees a read behind them. */
+static uint8_t *bytes_in(size_t *n) {
+    static const char digits[] = "0123456789abcdef";
+    rest += strspn(rest, " ");
+    *n = strspn(rest, digits) / 2;
+    uint8_t *bytes = taken(*n);
+    for (size_t i = 0; i < *n; i++, rest += 2) bytes[i] = (uint8_t)(16 * (strchr(digits, rest[0]) - digits) + (strchr(digits, rest[1]) - digits));
+    return bytes;
 }
 
 static uint8_t *file;
@@ -42,23 +58,37 @@ static void ask_open(void) {
 }
 
 static void ask_lookup(void) {
-    static uint8_t name[4096];
     uint32_t trail[16];
     uint64_t answer[6] = {88, 88, 88, 88, 88, 88};
-    size_t places = (size_t)number();
+    size_t places = (size_t)number(), n;
     for (int i = 0; i < 16; i++) trail[i] = 77;
-    size_t n = name_in(name);
+    uint8_t *name = bytes_in(&n);
     printf("%" PRIu64, hods_lookup(file, len, record, name, n, trail, places, answer));
     show(answer, 6);
     for (size_t i = 0; i < places; i++) printf(" %" PRIu32, trail[i]);
+    free(name);
 }
 
-static void ask_scan(void) {
-    static uint8_t name[4096];
+typedef uint64_t search(const uint8_t *, size_t, const uint64_t *, const uint8_t *, size_t, uint64_t *);
+
+/* The two searches without a trail. */
+static void ask_search(search *asked) {
     uint64_t answer[5] = {88, 88, 88, 88, 88};
-    size_t n = name_in(name);
-    printf("%" PRIu64, hods_scan(file, len, record, name, n, answer));
+    size_t n;
+    uint8_t *name = bytes_in(&n);
+    printf("%" PRIu64, asked(file, len, record, name, n, answer));
     show(answer, 5);
+    free(name);
+}
+
+static void ask_batch(void) {
+    size_t places = (size_t)number(), n;
+    uint8_t *names = bytes_in(&n), *answers = taken(places + BEHIND);
+    memset(answers, 77, places + BEHIND);
+    printf("%" PRIu64 " ", hods_batch(file, len, names, n, answers, places));
+    for (size_t i = 0; i < places + BEHIND; i++) printf("%02x", answers[i]);
+    free(answers);
+    free(names);
 }
 
 static void ask_step(void) {
@@ -94,17 +124,21 @@ int main(int argc, char **argv) {
     rewind(f);
     file = malloc(len ? len : 1);
     if (!file || fread(file, 1, len, f) != len) return 2;
-    while (fgets(line, sizeof line, stdin)) {
+    while (getline(&line, &line_room, stdin) > 0) {
         rest = line + 1;
-        if (line[0] == 'l' || line[0] == 'c' || line[0] == 's' || line[0] == 'p')
+        if (strchr("lfcsp", line[0]))
             for (int i = 0; i < HODS_RECORD; i++) record[i] = number();
         if (line[0] == 'o') ask_open();
         if (line[0] == 'l') ask_lookup();
-        if (line[0] == 'c') ask_scan();
+        if (line[0] == 'f') ask_search(hods_lookup_opened);
+        if (line[0] == 'c') ask_search(hods_scan);
+        if (line[0] == 'm') ask_batch();
         if (line[0] == 's') ask_step();
         if (line[0] == 'p') ask_page();
         if (line[0] == 'b') ask_part();
         printf("\n");
     }
+    free(line);
+    free(file);
     return 0;
 }

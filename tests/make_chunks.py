@@ -320,15 +320,16 @@ def printed(answer):
 
 
 def searches(answer):
-    """What a good chunk's searches find: the places of entries 0, 4, 5, 9, 10, 65535 and the last, then those that some names lead to."""
+    """What a good chunk's searches find: the places of entries 0, 4, 5, 9, 10, 65535 and the last; then, for some names, the places of their entries in a listing
+    chunk, the children to which they lead in an index chunk, where entry i has child i % 3."""
     if answer[0] == 'refused':
         return ''
     entries = answer[-1]
-    seek = find if answer[0] == 'listing' else choose
+    seek, told = (find, 0) if answer[0] == 'listing' else (choose, 3)
     hits = [nth(entries, i) for i in (0, 4, 5, 9, 10, 65535)] + [entries[-1]]
     asked = [seek(entries, n) for n in (b'/', b'/000', b'/005XX', b'/005', b'/9', b'/Z', b'/a.HTM')]
-    shown = lambda found: ''.join(' %d' % e[0] if e else ' -' for e in found)
-    return ' :' + shown(hits) + ' :' + shown(asked)
+    shown = lambda found, field: ''.join(' %d' % e[field] if e else ' -' for e in found)
+    return ' :' + shown(hits, 0) + ' :' + shown(asked, told)
 
 
 def made():

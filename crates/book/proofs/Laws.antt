@@ -1,19 +1,23 @@
--- A chunk that has its 4,096 bytes lies inside the file, and what was read in it is reported as its entry says.
+-- A chunk that has its 4,096 bytes lies inside the file, and what was read in it is reported as its entry says; a record that can be asked has few chunks and
+-- levels.
 -- Assumes nothing.
-use mathlib.Core.Path.{_≡_, refl, sym, ap, _∙_}
-use mathlib.Core.Bool.{Bool, true, false, cond}
-use mathlib.Core.List.{List, []}
+use mathlib.Core.Path.{_≡_, ap, _∙_}
+use mathlib.Core.Bool.{Bool, true, _&&_}
+use mathlib.Core.List.{List}
 use Prim.Native.Nat.{ℕ, _+_, _≤_, _<_}
 use native.Mathlib.Omega.{arith}
 use native.Mathlib.Decide.{decLe}
 use lib.ListN.{length}
-use borrow.Author.Tests.{le-leb}
+use lib.Dec.{leb}
+use borrow.Author.Tests.{le-leb, leb-true}
+use Rattle.fields.proofs.Tests.{and-both}
 use Rattle.fields.proofs.Parts.{part-inside, part-outside, length-part}
 use Rattle.entries.specs.declared.Place.{Place}
 use Rattle.chunk.specs.Chunk.{entryOf, isKind}
 use Rattle.chunk.proofs.Accepted.{accepted}
+use Rattle.header.specs.Header.{within}
 use Rattle.header.specs.declared.Record.{Record}
-use Rattle.book.specs.Book.{limitsOf, chunkPlace, chunkBytes, directoryOf, reportOf, reportAt}
+use Rattle.book.specs.Book.{limitsOf, chunkPlace, chunkBytes, directoryOf, bookFits, reportOf, reportAt}
 
 module _ (s : List ℕ) (r : Record) (c : ℕ) where
   pub chunk-inside : length (chunkBytes s r c) ≡ 4096 → chunkPlace r c + 4096 ≤ length s
@@ -21,6 +25,15 @@ module _ (s : List ℕ) (r : Record) (c : ℕ) where
   chunk-inside e =
       elim (decLe (chunkPlace r c + 4096) (length s)) [
         | yes h ↦ h
+        | no h ↦ absurd (omega (arith, e, ap length (part-outside s (chunkPlace r c) 4096 (omega arith))))
+      ]
+
+  -- one that has any bytes has them all
+  pub chunk-some : 0 < length (chunkBytes s r c) → length (chunkBytes s r c) ≡ 4096
+  unfolding chunkBytes
+  chunk-some e =
+      elim (decLe (chunkPlace r c + 4096) (length s)) [
+        | yes h ↦ ap length (part-inside s (chunkPlace r c) 4096 h) ∙ length-part s (chunkPlace r c) 4096 h
         | no h ↦ absurd (omega (arith, e, ap length (part-outside s (chunkPlace r c) 4096 (omega arith))))
       ]
 
@@ -35,3 +48,15 @@ module _ (s : List ℕ) (r : Record) (c : ℕ) where
       let i = chunk-inside e in
       let n = length-part (chunkBytes s r c) (p .start) (p .len) (omega arith) in
       rw (le-leb (chunkPlace r c + p .start) (length s) (omega arith), n)
+
+-- a record that can be asked has few chunks and levels
+pub fits-told : (s : List ℕ) (book : Record) → bookFits s book ≡ true → (book .count ≤ 4096) × (1 ≤ book .depth) × (book .depth ≤ 5)
+unfolding bookFits
+fits-told s book h =
+    let levels = within 1 5 (book .depth) in
+    let chunks = within 1 4096 (book .count) in
+    let inside = leb (book .content) (length s) in
+    let a = and-both levels (chunks && inside) (and-both (leb (book .density) 7) (levels && (chunks && inside)) h .1) in
+    let b = and-both (leb 1 (book .depth)) (leb (book .depth) 5) (a .0) in
+    let c = and-both (leb 1 (book .count)) (leb (book .count) 4096) (and-both chunks inside (a .1) .0) in
+    (leb-true (book .count) 4096 (c .1), leb-true 1 (book .depth) (b .0), leb-true (book .depth) 5 (b .1))

@@ -1,37 +1,69 @@
--- What a search over the bytes of a chunk finds, the chunk having passed its check, is what is sought among its entries; and what a search in one
--- listing chunk tells.
+-- What a search over the bytes of a chunk finds: on any bytes a name that stands where it is reported to; in a chunk that passes its check what is
+-- sought among its entries. And what a search in one listing chunk tells.
 -- Assumes nothing.
 use mathlib.Core.Path.{_≡_, refl, sym, ap, _∙_}
 use mathlib.Core.Bool.{Bool, true, false, cond}
 use mathlib.Core.List.{List}
-use Prim.Native.Nat.{ℕ}
+use Prim.Native.Nat.{ℕ, _+_}
 use native.Mathlib.Omega.{arith}
+use lib.ListN.{length}
+use borrow.Author.Tests.{le-leb}
+use Rattle.fields.specs.Part.{part}
+use Rattle.fields.proofs.Parts.{part-inside, part-within}
+use Rattle.names.specs.Names.{compared, matches}
+use Rattle.names.specs.Order.{isEqual}
+use Rattle.entries.specs.Entry.{nameOf}
 use Rattle.entries.specs.declared.Place.{Place}
-use Rattle.chunk.specs.Chunk.{Entry, entriesIn}
+use Rattle.chunk.specs.Chunk.{Entry, entryOf, entriesIn}
 use Rattle.seek.specs.Seek.{Sought, lookup, soughtOf, findIn, chooseIn}
 use Rattle.seek.specs.declared.Hit.{Hit}
 use Rattle.seek.specs.declared.Hit.the-variants.{At, Nothing}
 use Rattle.seek.proofs.Good.{find-good, choose-good}
-use Rattle.seek.proofs.Steps.{find-inside}
+use Rattle.seek.proofs.Steps.{find-read, find-inside}
 use Rattle.header.specs.declared.Record.{Record}
 use Rattle.tree.specs.Shape.{nextOf, listingChunk, indexChunk}
 use Rattle.tree.specs.Descent.{childFor}
 use Rattle.tree.proofs.Chunks.{listing-chunk, index-chunk}
-use Rattle.book.specs.Book.{limitsOf, chunkBytes, directoryOf, shapeOf, reportOf, reportAt}
-use Rattle.book.specs.Search.{searchOf, searchIn}
+use Rattle.book.specs.Book.{limitsOf, chunkPlace, chunkBytes, directoryOf, shapeOf, reportOf, reportAt}
+use Rattle.book.specs.Search.{findingOf, findingIn, searchOf, searchIn, Stands}
+use Rattle.book.specs.declared.Finding.{Finding}
+use Rattle.book.specs.declared.Report.{Report}
 use Rattle.book.specs.declared.Search.{Search}
 use Rattle.book.specs.declared.Search.the-variants.{Found, Next, Barred}
-use Rattle.book.proofs.Laws.{chunk-whole, report-entry}
+use Rattle.book.proofs.Laws.{chunk-inside, chunk-some, report-entry}
 
 module _ (s : List ℕ) (book : Record) (name : List ℕ) (c : ℕ) where
+  -- ---- any bytes: a name is found only in a chunk that has its bytes
+
+  module _ (e : Place) (q : findIn (limitsOf s book) (chunkBytes s book c) name ≡ At e) where
+    found-whole : length (chunkBytes s book c) ≡ 4096
+    found-whole = chunk-some s book c (let i = find-inside (limitsOf s book) (chunkBytes s book c) name e _ _ q in omega arith)
+
+    pub found-report : reportAt s book c e ≡ reportOf book c (entryOf (chunkBytes s book c) e)
+    found-report =
+        let i = find-inside (limitsOf s book) (chunkBytes s book c) name e _ _ q in
+        let w = found-whole in
+        report-entry s book c e w (omega arith)
+
+    -- the name that stands there is the asked one
+    pub found-stands : Stands s name (reportAt s book c e)
+    unfolding reportAt chunkBytes matches
+    found-stands =
+        let r = find-read (limitsOf s book) (chunkBytes s book c) name e _ _ q in
+        let i = find-inside (limitsOf s book) (chunkBytes s book c) name e _ _ q in
+        let w = found-whole in
+        let h = chunk-inside s book c w in
+        let z : nameOf (chunkBytes s book c) e ≡ part s (chunkPlace book c + e .start) (e .len) =
+        ap (λ (l : List ℕ). part l (e .start) (e .len)) (part-inside s (chunkPlace book c) 4096 h)
+        ∙ part-within s (chunkPlace book c) 4096 (e .start) (e .len) (omega arith) in
+        rw (le-leb (chunkPlace book c + e .start) (length s) (omega arith)) (omega arith, ap isEqual (sym (ap (compared name) z) ∙ r .1 .1))
+
   -- ---- an index chunk
 
-  pub chosen-in : indexChunk (directoryOf s book) (shapeOf book) c ≡ true → (x : Hit) → chooseIn (limitsOf s book) (chunkBytes s book c) name ≡ x
-      → childFor name (directoryOf s book c) ≡ soughtOf (chunkBytes s book c) x
+  pub chosen-in : indexChunk (directoryOf s book) (shapeOf book) c ≡ true
+      → childFor name (directoryOf s book c) ≡ soughtOf (chunkBytes s book c) (chooseIn (limitsOf s book) (chunkBytes s book c) name)
   unfolding directoryOf
-  chosen-in h x q =
-      sym (choose-good (limitsOf s book) (chunkBytes s book c) name (index-chunk (directoryOf s book) (shapeOf book) c h .1))
-      ∙ ap (soughtOf (chunkBytes s book c)) q
+  chosen-in h = sym (choose-good (limitsOf s book) (chunkBytes s book c) name (index-chunk (directoryOf s book) (shapeOf book) c h .1))
 
   -- ---- a listing chunk
 
@@ -43,17 +75,27 @@ module _ (s : List ℕ) (book : Record) (name : List ℕ) (c : ℕ) where
         sym (find-good (limitsOf s book) (chunkBytes s book c) name (listing-chunk (directoryOf s book) (shapeOf book) c h .1))
         ∙ ap (soughtOf (chunkBytes s book c)) q
 
-    pub search-found : (e : Place) → findIn (limitsOf s book) (chunkBytes s book c) name ≡ At e → Found (reportAt s book c e) ≡ searchIn s book name c
-    unfolding searchIn
-    search-found e q =
-        let w = chunk-whole s book c true (listing-chunk (directoryOf s book) (shapeOf book) c h .1) in
-        let i = find-inside (limitsOf s book) (chunkBytes s book c) name e _ _ q in
-        rw (h, found-in (At e) q) (ap (λ x. Found x) (report-entry s book c e w (omega arith)))
+    pub search-found : (x : Report) → findingIn s book name c ≡ Finding.Found x → Found x ≡ searchIn s book name c
+    unfolding findingIn searchIn
+    search-found x = go (findIn (limitsOf s book) (chunkBytes s book c) name) refl
+      where
+        go : (y : Hit) → findIn (limitsOf s book) (chunkBytes s book c) name ≡ y → findingOf s book c y ≡ Finding.Found x
+            → Found x ≡ cond (listingChunk (directoryOf s book) (shapeOf book) c)
+            (searchOf book c (nextOf (directoryOf s book c)) (lookup name (entriesIn (directoryOf s book c)))) Barred
+        go Nothing q r = absurd (let z : _≡_ {A = ℕ} 0 1 = cc in omega arith)
+        go (At e) q r =
+            let z : reportAt s book c e ≡ x = cc in
+            rw (h, found-in (At e) q) (ap (λ y. Found y) (sym z ∙ found-report e q))
 
-    pub search-next : (next : ℕ) → nextOf (directoryOf s book c) ≡ next → findIn (limitsOf s book) (chunkBytes s book c) name ≡ Nothing
-        → Next next ≡ searchIn s book name c
-    unfolding searchIn
-    search-next next k q = rw (h, found-in Nothing q) (ap (λ x. Next x) (sym k))
+    pub search-next : (next : ℕ) → nextOf (directoryOf s book c) ≡ next → findingIn s book name c ≡ Finding.Nothing → Next next ≡ searchIn s book name c
+    unfolding findingIn searchIn
+    search-next next k = go (findIn (limitsOf s book) (chunkBytes s book c) name) refl
+      where
+        go : (y : Hit) → findIn (limitsOf s book) (chunkBytes s book c) name ≡ y → findingOf s book c y ≡ Finding.Nothing
+            → Next next ≡ cond (listingChunk (directoryOf s book) (shapeOf book) c)
+            (searchOf book c (nextOf (directoryOf s book c)) (lookup name (entriesIn (directoryOf s book c)))) Barred
+        go (At e) q r = absurd (let z : _≡_ {A = ℕ} 0 1 = cc in omega arith)
+        go Nothing q r = rw (h, found-in Nothing q) (ap (λ x. Next x) (sym k))
 
   pub search-barred : listingChunk (directoryOf s book) (shapeOf book) c ≡ false → Barred ≡ searchIn s book name c
   unfolding searchIn

@@ -4,12 +4,13 @@ ghost use mathlib.Core.Bool.{cond};
 ghost use Prim.Native.Nat.{_+_, _-_, _/_};
 ghost use lib.Dec.{leb};
 ghost use Rattle.book.specs.Book.{limitsOf, chunkBytes, chunkPlace, shapeOf, bookFits, metChunk, refusalOf, reportAt};
-ghost use Rattle.book.specs.Search.{searchIn};
+ghost use Rattle.book.specs.Search.{findingIn, childIn, searchIn};
 ghost use Rattle.tree.specs.Tree.{top};
 use chunk::Chunk;
 use entries::Limits;
 use entries::Place;
 use header::Record;
+use seek::Child;
 use seek::Hit;
 
 // A refusal's number, and the chunk that it belongs to: FFFFFFFF where it belongs to none.
@@ -25,6 +26,12 @@ pub struct Report {
     pub section: u64,
     pub offset: u64,
     pub size: u64,
+}
+
+// What the search in the bytes of a chunk comes to.
+pub enum Finding {
+    Found(Report),
+    Nothing,
 }
 
 // What the search for a name in one listing chunk comes to: its entry, or the number of the chunk's next; `Barred` where there is no listing chunk.
@@ -166,6 +173,23 @@ pub fn report_of(file: &[u8], book: Record, c: u64, e: Place) -> Report
     }
 }
 
+// The search for a name in the bytes of chunk c, which nobody has to have checked.
+pub fn find_in(file: &[u8], book: Record, name: &[u8], c: u64) -> Finding
+    ensures { λ r. ⌜ r ≡ findingIn (now (file .entry)) book (now (name .entry)) c ⌝ }
+{
+    match seek::find(chunk_bytes(file, book, c), limits(file, book), name) {
+        Hit::At(e) => Finding::Found(report_of(file, book, c, e)),
+        Hit::Nothing => Finding::Nothing,
+    }
+}
+
+// Where the bytes of chunk c, as those of an index chunk, lead for a name.
+pub fn child_in(file: &[u8], book: Record, name: &[u8], c: u64) -> Child
+    ensures { λ r. ⌜ r ≡ childIn (now (file .entry)) book (now (name .entry)) c ⌝ }
+{
+    seek::choose(chunk_bytes(file, book, c), limits(file, book), name)
+}
+
 // The search for a name in chunk c, which is checked whole first.
 pub fn search_in(file: &[u8], book: Record, name: &[u8], c: u64) -> Search
     ensures { λ r. ⌜ r ≡ searchIn (now (file .entry)) book (now (name .entry)) c ⌝ }
@@ -173,8 +197,8 @@ pub fn search_in(file: &[u8], book: Record, name: &[u8], c: u64) -> Search
     let Chunk::Listing(_, next) = met(file, book, c) else {
         return Search::Barred;
     };
-    match seek::find(chunk_bytes(file, book, c), limits(file, book), name) {
-        Hit::At(e) => Search::Found(report_of(file, book, c, e)),
-        Hit::Nothing => Search::Next(next),
+    match find_in(file, book, name, c) {
+        Finding::Found(x) => Search::Found(x),
+        Finding::Nothing => Search::Next(next),
     }
 }

@@ -1,8 +1,10 @@
 // Reports on each chunk of standard input, 4,096 bytes each, held to density 2, 3 chunks and a content of 5 bytes. A line a chunk:
-// the refusal's number, or what the chunk is, and then the places of some entries by index, of the last one, and of those that some names lead to.
+// the refusal's number, or what the chunk is, and then the places of some entries by index, of the last one, and of those that some names find; for an
+// index chunk the children to which they lead.
 use chunk::Chunk;
 use entries::Limits;
 use libc::STDOUT_FILENO;
+use seek::Child;
 use seek::Hit;
 
 fn number(n: u64) {
@@ -19,11 +21,20 @@ fn place(h: Hit) {
     }
 }
 
+fn child(d: Child) {
+    match d {
+        Child::Below(n) => number(n),
+        Child::Nowhere => {
+            io::write_all(STDOUT_FILENO, b" -");
+        }
+    }
+}
+
 fn sought(c: &[u8], limits: Limits, listing: bool, name: &[u8]) {
     if listing {
         place(seek::find(c, limits, name));
     } else {
-        place(seek::choose(c, limits, name));
+        child(seek::choose(c, limits, name));
     }
 }
 

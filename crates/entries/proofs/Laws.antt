@@ -1,18 +1,19 @@
 -- What an entry that was read is known to be: it stands at its place, it and its name lie inside the chunk, and its numbers keep the rules.
 -- Assumes nothing.
-use mathlib.Core.Path.{_≡_, refl, subst}
+use mathlib.Core.Path.{_≡_, refl, sym, ap₂, subst, _∙_}
 use mathlib.Core.List.{List}
 use mathlib.Core.Bool.{Bool, true, false, cond, _&&_, _||_}
 use Prim.Native.Nat.{ℕ, _+_, _≤_, _<_}
 use native.Mathlib.Omega.{arith}
-use borrow.Author.Tests.{ltb-true, leb-true}
+use borrow.Author.Tests.{ltb-true, leb-true, lt-ltb, le-ltb}
 use lib.ListN.{length}
 use lib.Dec.{ltb, leb}
+use Rattle.fields.specs.Part.{part}
 use Rattle.encint.specs.Encint.{encintAt}
 use Rattle.encint.specs.declared.Number.{Number}
 use Rattle.encint.specs.declared.Number.the-variants.{Value, Bad}
 use Rattle.encint.proofs.Reading.{encint-next, bad-no-value}
-use Rattle.entries.specs.Entry.{nameAt, withNumber, listingAt, indexAt, itemAt}
+use Rattle.entries.specs.Entry.{nameAt, withNumber, listingAt, indexAt, itemAt, nameOf}
 use Rattle.entries.specs.declared.Limits.{Limits}
 use Rattle.entries.specs.declared.Place.{Place}
 use Rattle.entries.specs.declared.Item.{Item}
@@ -110,3 +111,37 @@ index-child-at count s at e q =
 pub index-child : (limits : Limits) (s : List ℕ) (at : ℕ) (e : Place) → itemAt limits false s at ≡ Good e → e .child < limits .count
 unfolding itemAt
 index-child limits s at e q = index-child-at (limits .count) s at e q
+
+-- ---- an entry, its name read first
+
+module _ (limits : Limits) (k : Bool) (s : List ℕ) (at : ℕ) where
+  pub item-unnamed : nameAt s at ≡ Bad → itemAt limits k s at ≡ Item.Bad
+  unfolding itemAt listingAt indexAt
+  item-unnamed q = go k
+    where
+      go : (k : Bool) → itemAt limits k s at ≡ Item.Bad
+      go true = rw q refl
+      go false = rw q refl
+
+  pub item-named : (n p : ℕ) (e : Place) → nameAt s at ≡ Value n p → itemAt limits k s at ≡ Good e → nameOf s e ≡ part s p n
+  item-named n p e q g =
+      let z : Value (e .len) (e .start) ≡ Value n p = sym (item-inside limits k s at e g .read) ∙ q in
+      let x : e .len ≡ n = cc in
+      let y : e .start ≡ p = cc in
+      ap₂ (λ (i j : ℕ). part s i j) y x
+
+-- an index entry, its child behind its name
+module _ (limits : Limits) (s : List ℕ) (at n p : ℕ) (q : nameAt s at ≡ Value n p) where
+  pub index-broken : encintAt s (p + n) ≡ Bad → itemAt limits false s at ≡ Item.Bad
+  unfolding itemAt indexAt
+  index-broken h = rw (q, h) refl
+
+  module _ (child next : ℕ) (h : encintAt s (p + n) ≡ Value child next) where
+    pub index-wide : limits .count ≤ child → itemAt limits false s at ≡ Item.Bad
+    unfolding itemAt indexAt
+    index-wide l = rw (q, h, le-ltb child (limits .count) l) refl
+
+    pub index-whole : child < limits .count
+        → itemAt limits false s at ≡ Good (record { at = at; start = p; len = n; section = 0; offset = 0; size = 0; child = child; next = next })
+    unfolding itemAt indexAt
+    index-whole l = rw (q, h, lt-ltb child (limits .count) l) refl

@@ -1,9 +1,9 @@
 -- Laws of `le` and `bytes`, over every width: bounds, reading in another list, and reading back what was written.
 -- Assumes nothing.
-use mathlib.Core.Path.{_≡_, refl, ap, sym}
+use mathlib.Core.Path.{_≡_, refl, ap, ap₂, sym, _∙_}
 use mathlib.Core.List.{List, [], _∷_, _++_}
 use Prim.Native.Nat.{ℕ, zero, suc, _+_, _-_, _*_, _/_, _%_, _^_, _≤_, _<_}
-use native.Mathlib.Nat.{pow-suc, pow-le-pow-right, lt-of-lt-of-le, add-zero}
+use native.Mathlib.Nat.{mul-assoc, pow-suc, pow-succ', pow-le-pow-right, lt-of-lt-of-le, add-zero}
 use native.Mathlib.Omega.{arith}
 use lib.Dec.{lit<}
 use lib.ListN.{length, getD, take, drop, length-append}
@@ -23,6 +23,23 @@ le-lt s h (suc k) at = rw pow-suc (omega (arith, h at, le-lt s h k (at + 1)))
 
 pub le-below : (s : List ℕ) → ((i : ℕ) → getD s i 0 < 256) → (k m at : ℕ) → k ≤ m → le k s at < 256 ^ m
 le-below s h k m at l = lt-of-lt-of-le (le-lt s h k at) (pow-le-pow-right (lit< tt) l)
+
+-- j bytes and k behind them
+pub le-split : (j k : ℕ) (s : List ℕ) (at : ℕ) → le (j + k) s at ≡ le j s at + 256 ^ j * le k s (at + j)
+unfolding le
+le-split zero k s at =
+    let y : 0 + k ≡ k = omega arith in
+    let z : at ≡ at + 0 = omega arith in
+    let e : le (0 + k) s at ≡ le k s (at + 0) = ap₂ (λ (n i : ℕ). le n s i) y z in
+    omega (arith, e)
+le-split (suc j) k s at =
+    let y : suc j + k ≡ suc (j + k) = omega arith in
+    let z : at + 1 + j ≡ at + suc j = omega arith in
+    let e : le (suc j + k) s at ≡ getD s at 0 + 256 * le (j + k) s (at + 1) = ap (λ (n : ℕ). le n s at) y in
+    let r = rw z at (le-split j k s (at + 1)) in
+    let m : 256 ^ suc j * le k s (at + suc j) ≡ 256 * (256 ^ j * le k s (at + suc j)) =
+    ap (λ (n : ℕ). n * le k s (at + suc j)) (pow-succ' 256 j) ∙ mul-assoc 256 (256 ^ j) (le k s (at + suc j)) in
+    omega (arith, e, r, m)
 
 -- past the end it is 0
 pub le-past : (k : ℕ) (s : List ℕ) (at : ℕ) → length s ≤ at → le k s at ≡ 0

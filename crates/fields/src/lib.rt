@@ -39,6 +39,14 @@ fn number(s: &[u8], at: usize, k: usize) -> u64
 pub fn le16(s: &[u8], at: usize) -> u16
     ensures { λ r. ⌜ r ≡ le 2 (now (s .entry)) at ⌝ }
 {
+    // The common case, of two bytes inside: the compiler makes it one load.
+    if at < s.len() {
+        if 1 < s.len() - at {
+            let low = s[at] as u16;
+            let high = s[at + 1] as u16;
+            return low + 0x100 * high;
+        }
+    }
     number(s, at, 2) as u16
 }
 

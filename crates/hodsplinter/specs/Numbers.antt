@@ -11,6 +11,8 @@ use Rattle.directory.specs.declared.Opened.the-variants.{Book}
 use Rattle.lookup.specs.declared.Answer.{Answer}
 use Rattle.lookup.specs.declared.Answer.the-variants.{Found, Absent}
 use Rattle.lookup.specs.declared.Reply.{Reply}
+use Rattle.batch.specs.declared.Batched.{Batched}
+use Rattle.batch.specs.declared.Batched.the-variants.{Answered}
 use Rattle.listing.specs.Listing.{fiveOf}
 use Rattle.listing.specs.declared.Cursor.{Cursor}
 use Rattle.listing.specs.declared.Step.{Step}
@@ -80,6 +82,12 @@ abbrev pub replyNumbers : Reply → List ℕ → List ℕ
 replyNumbers (Reply.Found x) was = fiveOf x
 replyNumbers Reply.Absent was = was
 replyNumbers (Reply.Refused x) was = was
+
+-- ---- a batch: 0, or the refusal
+
+abbrev pub batchCode : Batched → ℕ
+batchCode Answered = 0
+batchCode (Batched.Refused x) = refusalCode x
 
 -- ---- a page: 0 and its count and next chunk, 255 where the slice is too short, or the refusal with nothing changed
 

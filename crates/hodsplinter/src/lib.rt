@@ -5,11 +5,14 @@ ghost use lib.ListN.{length};
 ghost use Rattle.lookup.specs.Lookup.{lookedUp, trailAfter};
 ghost use Rattle.listing.specs.Listing.{startOf, stepped, pageOf, pageIn};
 ghost use Rattle.scan.specs.Scan.{scanned};
+ghost use Rattle.fetch.specs.Fetch.{fetched};
+ghost use Rattle.batch.specs.Batch.{batchOf, answersIn};
 ghost use Rattle.directory.specs.Opened.{opened};
 ghost use Rattle.directory.specs.declared.Opened.the-variants.{Book};
-ghost use Rattle.hodsplinter.specs.Numbers.{recordIn, numbersOf, refusalCode, openCode, openRecord, lookupCode, lookupNumbers, replyCode, replyNumbers, cursorOf, cursorNumbers, stepCode, stepCursor, stepNumbers, pageCode, pageNumbers, partLength, writeCode, writeNumbers};
+ghost use Rattle.hodsplinter.specs.Numbers.{recordIn, numbersOf, refusalCode, openCode, openRecord, lookupCode, lookupNumbers, replyCode, replyNumbers, batchCode, cursorOf, cursorNumbers, stepCode, stepCursor, stepNumbers, pageCode, pageNumbers, partLength, writeCode, writeNumbers};
 ghost use Rattle.layout.specs.Layout.{layoutFor, headBytes};
 ghost use Rattle.head.specs.Head.{written, outputFor};
+use batch::Batched;
 use book::Refusal;
 use directory::Opened;
 use head::Written;
@@ -110,6 +113,21 @@ pub extern "C" fn hods_lookup(
     }
 }
 
+// The reply of a search that leaves no trail: the five numbers of what was found, and the code.
+fn tell(reply: Reply, answer: &mut [u64; 5]) -> u64
+    ensures code { λ r. ⌜ r ≡ replyCode reply ⌝ }
+    ensures numbers { λ _. ⌜ now (answer .exit) ≡ replyNumbers reply (now (answer .entry)) ⌝ }
+{
+    match reply {
+        Reply::Found(x) => {
+            *answer = [x.place, x.length, x.section, x.offset, x.size];
+            0
+        }
+        Reply::Absent => 255,
+        Reply::Refused(r) => code(r),
+    }
+}
+
 // Looks a name up along the chain alone: 0 found (name's place, name's length, section, offset, length); 255 absent, or the refusal, with nothing changed.
 // On a book that opens, with its record, the number is that of lookup.
 #[no_mangle]
@@ -123,13 +141,35 @@ pub extern "C" fn hods_scan(
     ensures numbers { λ _. ⌜ now (answer .exit) ≡ replyNumbers (scanned (now (file .entry)) (recordIn (now («record» .entry))) (now (name .entry))) (now (answer .entry)) ⌝ }
     ensures agrees { λ r. ⌜ (opened (now (file .entry)) ≡ Book (recordIn (now («record» .entry))) → (places : ℕ) → 5 ≤ places → r ≡ lookupCode (lookedUp (now (file .entry)) (recordIn (now («record» .entry))) (now (name .entry)) places)) ⌝ }
 {
-    match scan::scan(file, record_in(record), name) {
-        Reply::Found(x) => {
-            *answer = [x.place, x.length, x.section, x.offset, x.size];
-            0
-        }
-        Reply::Absent => 255,
-        Reply::Refused(r) => code(r),
+    tell(scan::scan(file, record_in(record), name), answer)
+}
+
+// Looks a name up in a book that was opened, with no chunk checked again: 0 found (name's place, name's length, section, offset, length); 255 absent, or the
+// refusal, with nothing changed. On a book that opens, with its record, the number is that of lookup; on other bytes a name may be missed.
+#[no_mangle]
+pub extern "C" fn hods_lookup_opened(
+    file: &[u8],
+    record: &Numbers,
+    name: &[u8],
+    answer: &mut [u64; 5],
+) -> u64
+    ensures answer { λ r. ⌜ r ≡ replyCode (fetched (now (file .entry)) (recordIn (now («record» .entry))) (now (name .entry))) ⌝ }
+    ensures numbers { λ _. ⌜ now (answer .exit) ≡ replyNumbers (fetched (now (file .entry)) (recordIn (now («record» .entry))) (now (name .entry))) (now (answer .entry)) ⌝ }
+    ensures agrees { λ r. ⌜ (opened (now (file .entry)) ≡ Book (recordIn (now («record» .entry))) → (places : ℕ) → 5 ≤ places → r ≡ lookupCode (lookedUp (now (file .entry)) (recordIn (now («record» .entry))) (now (name .entry)) places)) ⌝ }
+{
+    tell(fetch::fetch(file, record_in(record), name), answer)
+}
+
+// Opens the book and looks up names that stand one behind another, each an ENCINT of its length and its bytes: 0 with 32 bytes a name at the front of
+// `answers`; or the refusal of opening, or 22, with nothing changed.
+#[no_mangle]
+pub extern "C" fn hods_batch(file: &[u8], names: &[u8], answers: &mut [u8]) -> u64
+    ensures answer { λ r. ⌜ r ≡ batchCode (batchOf (now (file .entry)) (now (names .entry)) (length (now (answers .entry)))) ⌝ }
+    ensures answers { λ _. ⌜ now (answers .exit) ≡ answersIn (now (file .entry)) (now (names .entry)) (now (answers .entry)) ⌝ }
+{
+    match batch::batch(file, names, answers) {
+        Batched::Answered => 0,
+        Batched::Refused(r) => code(r),
     }
 }
 

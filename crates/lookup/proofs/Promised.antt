@@ -1,16 +1,13 @@
 -- What `lookup` promises, from its checks and from the descent.
 -- Assumes nothing.
 use mathlib.Core.Path.{_≡_, refl, sym, ap, _∙_}
-use mathlib.Core.Bool.{true, false, _&&_}
+use mathlib.Core.Bool.{true, false}
 use mathlib.Core.List.{List}
 use Prim.Native.Nat.{ℕ, _+_, _≤_, _<_}
 use native.Mathlib.Omega.{arith}
 use lib.ListN.{length}
-use lib.Dec.{leb}
-use borrow.Author.Tests.{le-leb, lt-leb, leb-true}
-use Rattle.fields.proofs.Tests.{and-both}
+use borrow.Author.Tests.{le-leb, lt-leb}
 use Rattle.names.specs.Names.{askable}
-use Rattle.header.specs.Header.{within}
 use Rattle.header.specs.declared.Record.{Record}
 use Rattle.tree.specs.Tree.{top}
 use Rattle.tree.specs.Descent.{outcome, trail}
@@ -22,18 +19,6 @@ use Rattle.lookup.specs.Step.{Descended}
 use Rattle.lookup.specs.Complete.{Complete}
 use Rattle.lookup.specs.declared.Answer.{Answer}
 use Rattle.lookup.proofs.Complete.{complete}
-
--- a record that can be asked has few chunks and levels
-pub fits-told : (s : List ℕ) (book : Record) → bookFits s book ≡ true → (book .count ≤ 4096) × (1 ≤ book .depth) × (book .depth ≤ 5)
-unfolding bookFits
-fits-told s book h =
-    let levels = within 1 5 (book .depth) in
-    let chunks = within 1 4096 (book .count) in
-    let inside = leb (book .content) (length s) in
-    let a = and-both levels (chunks && inside) (and-both (leb (book .density) 7) (levels && (chunks && inside)) h .1) in
-    let b = and-both (leb 1 (book .depth)) (leb (book .depth) 5) (a .0) in
-    let c = and-both (leb 1 (book .count)) (leb (book .count) 4096) (and-both chunks inside (a .1) .0) in
-    (leb-true (book .count) 4096 (c .1), leb-true 1 (book .depth) (b .0), leb-true (book .depth) 5 (b .1))
 
 module _ (s : List ℕ) (book : Record) (name was : List ℕ) where
   -- the three clauses

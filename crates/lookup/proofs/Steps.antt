@@ -4,15 +4,15 @@ use mathlib.Core.Path.{_≡_, refl, sym, ap, _∙_}
 use mathlib.Core.Bool.{Bool, true, false, cond}
 use mathlib.Core.List.{List}
 use Prim.Native.Nat.{ℕ}
-use Rattle.entries.specs.declared.Place.{Place}
 use Rattle.chunk.specs.Chunk.{entriesIn}
 use Rattle.seek.specs.Seek.{Sought, lookup, chooseIn}
-use Rattle.seek.specs.declared.Hit.the-variants.{At, Nothing}
+use Rattle.seek.specs.declared.Child.the-variants.{Below, Nowhere}
 use Rattle.header.specs.declared.Record.{Record}
 use Rattle.tree.specs.Shape.{nextOf, listingChunk, indexChunk}
 use Rattle.tree.specs.Descent.{refused, answer, outcomeFrom}
+use Rattle.tree.proofs.Steps.{leads-down, leads-nowhere}
 use Rattle.book.specs.Book.{limitsOf, chunkBytes, directoryOf, shapeOf}
-use Rattle.book.specs.Search.{searchOf, searchIn}
+use Rattle.book.specs.Search.{childIn, searchOf, searchIn}
 use Rattle.book.specs.declared.Search.{Search}
 use Rattle.book.specs.declared.Search.the-variants.{Next}
 use Rattle.book.proofs.Searching.{chosen-in}
@@ -48,10 +48,10 @@ module _ (s : List ℕ) (book : Record) (name : List ℕ) (c : ℕ) where
   index-barred h = rw h refl
 
   module _ (h : indexChunk (directoryOf s book) (shapeOf book) c ≡ true) where
-    pub index-down : (e : Place) → chooseIn (limitsOf s book) (chunkBytes s book c) name ≡ At e → Down (e .child) ≡ wayAt s book name c
-    unfolding wayAt
-    index-down e q = rw (h, chosen-in s book name c h (At e) q) refl
+    pub index-down : (k : ℕ) → childIn s book name c ≡ Below k → Down k ≡ wayAt s book name c
+    unfolding wayAt childIn
+    index-down k q = rw (h, chosen-in s book name c h) (sym (leads-down (chunkBytes s book c) (chooseIn (limitsOf s book) (chunkBytes s book c) name) Ends (λ n. Down n) k q))
 
-    pub index-ends : chooseIn (limitsOf s book) (chunkBytes s book c) name ≡ Nothing → Ends ≡ wayAt s book name c
-    unfolding wayAt
-    index-ends q = rw (h, chosen-in s book name c h Nothing q) refl
+    pub index-ends : childIn s book name c ≡ Nowhere → Ends ≡ wayAt s book name c
+    unfolding wayAt childIn
+    index-ends q = rw (h, chosen-in s book name c h) (sym (leads-nowhere (chunkBytes s book c) (chooseIn (limitsOf s book) (chunkBytes s book c) name) Ends (λ n. Down n) q))

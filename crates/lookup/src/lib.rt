@@ -13,7 +13,7 @@ use book::Report;
 use book::Search;
 use chunk::Chunk;
 use header::Record;
-use seek::Hit;
+use seek::Child;
 
 // What a lookup answers; the number behind it is the count of the descent's chunks.
 pub enum Answer {
@@ -61,11 +61,9 @@ fn ask_index(file: &[u8], book: Record, name: &[u8], c: u64) -> Way
     let Chunk::Index = book::met(file, book, c) else {
         return Way::Barred;
     };
-    let bytes = book::chunk_bytes(file, book, c);
-    let limits = book::limits(file, book);
-    match seek::choose(bytes, limits, name) {
-        Hit::At(e) => Way::Down(e.child),
-        Hit::Nothing => Way::Ends,
+    match book::child_in(file, book, name, c) {
+        Child::Below(child) => Way::Down(child),
+        Child::Nowhere => Way::Ends,
     }
 }
 

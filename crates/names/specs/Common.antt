@@ -2,14 +2,9 @@
 -- Assumes nothing.
 use Prim.Native.Nat.{ℕ, _≤_}
 use mathlib.Core.Path.{_≡_}
-use mathlib.Core.Bool.{Bool, true}
 use mathlib.Core.List.{List}
 use lib.ListN.{length, drop}
 use Rattle.names.specs.Names.{compared}
-
--- a test of the bytes from i to j: where it is true, they decide nothing
-abbrev pub Passed : List ℕ → List ℕ → ℕ → ℕ → Bool → Type 0
-Passed a b i j r = r ≡ true → compared (drop i a) (drop i b) ≡ compared (drop j a) (drop j b)
 
 -- i bytes decide nothing
 abbrev pub Common : List ℕ → List ℕ → ℕ → Type 0

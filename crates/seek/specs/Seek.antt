@@ -11,8 +11,9 @@ use Rattle.names.specs.declared.Order.{Order}
 use Rattle.names.specs.declared.Order.the-variants.{Less, Equal, Greater}
 use Rattle.entries.specs.Entry.{withNumber, nameAt, itemAt, nameOf}
 use Rattle.entries.specs.declared.Limits.{Limits}
-use Rattle.entries.specs.declared.Place.{Place}
 use Rattle.chunk.specs.Chunk.{Entry, entryOf, withItem, headOf, countOf, spacingOf, quickCount, quickWord}
+use Rattle.seek.specs.declared.Child.{Child}
+use Rattle.seek.specs.declared.Child.the-variants.{Below, Nowhere}
 use Rattle.seek.specs.declared.Hit.{Hit}
 use Rattle.seek.specs.declared.Hit.the-variants.{At, Nothing}
 
@@ -109,6 +110,11 @@ findIn limits s name = findAt limits s name (leftFrom limits s (groupIn limits t
 abbrev pub chooseIn : Limits → List ℕ → List ℕ → Hit
 chooseIn limits s name =
     chooseAt limits s name Nothing (leftFrom limits s (groupIn limits false s name)) (groupAt false s (groupIn limits false s name))
+
+-- where an index chunk leads: the child of the entry that was chosen
+abbrev pub childOf : Hit → Child
+childOf Nothing = Nowhere
+childOf (At e) = Below (e .child)
 
 -- entry i, from the last quick word that is not behind it
 unfoldable pub nthIn : Limits → Bool → List ℕ → ℕ → Hit

@@ -25,13 +25,13 @@ use Rattle.tree.proofs.Shaped.{under, first-under}
 use Rattle.tree.proofs.Descended.{Answered, answered, reached, trail-deep, trail-high}
 
 -- the tree of an accepted directory: it hangs from the top, whose level is the depth, and its leaves are the chain
-record Grown (D : ℕ → Parsed) (H : Shape) (l : ℕ) : Type 0 where
-  depth-is : H .depth ≡ suc l
-  shape : shaped D H (suc l) (top H) ≡ true
-  leaves-are : leaves D (suc l) (top H) ≡ chain D H
+pub record Grown (D : ℕ → Parsed) (H : Shape) (l : ℕ) : Type 0 where
+  pub depth-is : H .depth ≡ suc l
+  pub shape : shaped D H (suc l) (top H) ≡ true
+  pub leaves-are : leaves D (suc l) (top H) ≡ chain D H
 
 module _ (D : ℕ → Parsed) (H : Shape) where
-  grown : treeOk D H ≡ true → (l : ℕ) × Grown D H l
+  pub grown : treeOk D H ≡ true → (l : ℕ) × Grown D H l
   unfolding treeOk shaped
   grown passes =
       let t = and-both _ _ passes in

@@ -16,3 +16,4 @@ pub mod Steps
 pub mod Examples
 pub mod Reading
 pub mod Plain
+pub mod Fetch

@@ -11,10 +11,13 @@ use borrow.Author.Tests.{eq-eqb, ne-eqb}
 use Rattle.fields.specs.Same.{same}
 use Rattle.names.specs.Names.{below}
 use Rattle.chunk.specs.Chunk.{Entry, Parsed, entriesIn}
-use Rattle.seek.specs.Seek.{Sought, lookup}
+use Rattle.seek.specs.Seek.{Sought, soughtOf, childOf, lookup}
+use Rattle.seek.specs.declared.Child.the-variants.{Below, Nowhere}
+use Rattle.seek.specs.declared.Hit.{Hit}
+use Rattle.seek.specs.declared.Hit.the-variants.{At, Nothing}
 use Rattle.tree.specs.Shape.{Shape, noChunk, previousOf, nextOf, firstName, lastName, listingChunk, indexChunk}
 use Rattle.tree.specs.Walk.{Progress, stopped, going, intoChild, visit, walk, chainRun}
-use Rattle.tree.specs.Descent.{found, absent, refused, answer, childFor, outcomeFrom, trailFrom}
+use Rattle.tree.specs.Descent.{found, absent, refused, answer, childFor, onward, outcomeFrom, trailFrom}
 use Rattle.tree.proofs.Lists.{onTest}
 
 module _ (D : ℕ → Parsed) (H : Shape) where
@@ -134,3 +137,20 @@ module _ (D : ℕ → Parsed) (H : Shape) (name : List ℕ) where
   descent-child zero c x z h q = absurd (omega arith)
   descent-child (suc zero) c x z h q = absurd (omega arith)
   descent-child (suc (suc l)) c x z h q = (rw (h, q, sub-one (suc (suc l))), rw (q, sub-one (suc (suc l))))
+
+-- ---- where the search in an index chunk leads
+
+module _ {A : Type 0} (s : List ℕ) (x : Hit) (d : A) (f : ℕ → A) where
+  pub leads-down : (k : ℕ) → childOf x ≡ Below k → onward (soughtOf s x) d f ≡ f k
+  leads-down k = go x
+    where
+      go : (x : Hit) → childOf x ≡ Below k → onward (soughtOf s x) d f ≡ f k
+      go Nothing q = absurd (let z : _≡_ {A = ℕ} 0 1 = cc in omega arith)
+      go (At e) q = let z : e .child ≡ k = cc in ap f z
+
+  pub leads-nowhere : childOf x ≡ Nowhere → onward (soughtOf s x) d f ≡ d
+  leads-nowhere = go x
+    where
+      go : (x : Hit) → childOf x ≡ Nowhere → onward (soughtOf s x) d f ≡ d
+      go Nothing q = refl
+      go (At e) q = absurd (let z : _≡_ {A = ℕ} 0 1 = cc in omega arith)

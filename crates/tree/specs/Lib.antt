@@ -4,5 +4,6 @@ pub mod Chain
 pub mod Tree
 pub mod Descent
 pub mod Reading
+pub mod Fetch
 pub mod Walk
 pub mod Demand

@@ -1,6 +1,9 @@
 //! Asks the library and the second implementation the same, and compares the answers and every
 //! lent place.
 
+mod batch;
+mod opened;
+
 use crate::coverage::{self, Coverage};
 use crate::lent::Lent;
 use crate::library;
@@ -21,18 +24,23 @@ pub struct Differ {
     pub comparisons: u64,
 }
 
-/// Bytes and, if they open, their record.
+/// Bytes and what opening them gives.
 pub struct Asked<'a> {
     pub file: &'a [u8],
-    pub opened: Option<Record>,
+    pub opening: Result<Record, Refusal>,
 }
 
 impl<'a> Asked<'a> {
     pub fn new(file: &'a [u8]) -> Asked<'a> {
         Asked {
             file,
-            opened: open(file).ok(),
+            opening: open(file),
         }
+    }
+
+    /// Whether opening gives this record for these bytes.
+    fn gave(&self, record: &Record) -> bool {
+        self.opening == Ok(*record)
     }
 }
 
@@ -116,21 +124,43 @@ fn reply_text(reply: Reply) -> &'static str {
     }
 }
 
-/// On a book that opens, how the library's lookup differs from its scan (FORMAT K20).
+/// What a reply means for the five numbers that are lent for an entry, and the answer as a number.
+fn expect_reply(answer: &mut Lent<u64>, reply: Reply) -> u64 {
+    match reply {
+        Reply::Found(report) => {
+            answer.expect(&report_numbers(&report));
+            DONE
+        }
+        Reply::Absent => NOTHING,
+        Reply::Refused(refusal) => code(refusal),
+    }
+}
+
+/// What a search of the library without a trail answered, and the row that ties it to lookup.
+struct Searched<'a> {
+    search: &'static str,
+    row: &'static str,
+    got: u64,
+    entry: &'a [u64; 5],
+}
+
+/// On a book that opens, how the library's lookup differs from another search of it.
 fn lookup_disagrees(
     file: &[u8],
     record: &Record,
     name: &[u8],
-    scanned: u64,
-    entry: &[u64; 5],
+    searched: &Searched,
 ) -> Option<String> {
+    let Searched {
+        search, row, entry, ..
+    } = searched;
     let (mut trail, mut answer) = ([0; 5], [0; 6]);
     let numbers = record_numbers(record);
     let got = library::lookup(file, &numbers, name, &mut trail, &mut answer);
-    let same = got == scanned && (got != DONE || answer[1..] == *entry);
+    let same = got == searched.got && (got != DONE || answer[1..] == entry[..]);
     (!same).then(|| {
-        let (lookup, scan) = (answer_text(got), answer_text(scanned));
-        format!("library, FORMAT K20: lookup {lookup} {answer:?}, scan {scan} {entry:?}")
+        let (lookup, other) = (answer_text(got), answer_text(searched.got));
+        format!("library, FORMAT {row}: lookup {lookup} {answer:?}, {search} {other} {entry:?}")
     })
 }
 
@@ -163,6 +193,8 @@ impl Differ {
                 places,
             } => self.lookup(asked, record, name, *places),
             Call::Scan { record, name } => self.scan(asked, record, name),
+            Call::Opened { record, name } => self.opened(asked, record, name),
+            Call::Batch { names, room } => self.batch(asked, names, *room),
             Call::Start { record } => self.start(record),
             Call::Step { record, cursor } => self.step(asked, record, *cursor),
             Call::Page {
@@ -289,14 +321,7 @@ impl Differ {
     fn scan(&mut self, asked: &Asked, record: &Record, name: &[u8]) -> Both {
         let mut answer = Lent::new("answer", 5);
         let told = scan(asked.file, record, name);
-        let expected = match told {
-            Reply::Found(report) => {
-                answer.expect(&report_numbers(&report));
-                DONE
-            }
-            Reply::Absent => NOTHING,
-            Reply::Refused(refusal) => code(refusal),
-        };
+        let expected = expect_reply(&mut answer, told);
         self.count_scan(asked, record, name, told);
 
         let mut lent_record = lent(record);
@@ -307,8 +332,14 @@ impl Differ {
             lent_name.lend(),
             answer.lend_array(),
         );
-        let disagreement = match asked.opened == Some(*record) {
-            true => lookup_disagrees(asked.file, record, name, got, answer.lend_array()),
+        let searched = Searched {
+            search: "scan",
+            row: "K20",
+            got,
+            entry: answer.lend_array(),
+        };
+        let disagreement = match asked.gave(record) {
+            true => lookup_disagrees(asked.file, record, name, &searched),
             false => None,
         };
         Both::new(expected, got)
@@ -351,7 +382,7 @@ impl Differ {
         record: &Record,
         answered: bool,
     ) {
-        if asked.opened != Some(*record) {
+        if !asked.gave(record) {
             let answer = if answered { "answered" } else { "17" };
             self.coverage.count(group, answer);
             let numbers = record_numbers(record);
@@ -544,5 +575,16 @@ impl Differ {
             at + 1,
             written.get(at)
         ))
+    }
+}
+
+#[cfg(test)]
+mod tests {
+    use super::*;
+
+    #[test]
+    fn refusals_as_numbers() {
+        assert_eq!(code(Refusal::new(22)), 1_099_511_627_542);
+        assert_eq!(code(Refusal::of_chunk(8, 3)), 776);
     }
 }

@@ -27,6 +27,10 @@ const PROGRAM: &[&str] = &[
     "0", "1", "2", "3", "4", "5", "6", "7", "8", "9", "10", "11", "12", "13", "14", "29",
 ];
 
+const BATCH: &[&str] = &[
+    "0", "1", "2", "3", "4", "5", "6", "7", "8", "9", "10", "11", "12", "13", "14", "22",
+];
+
 const ASKING: &[&str] = &["answered", "17"];
 
 const NAME: &[&str] = &[
@@ -69,6 +73,8 @@ const GROUPS: &[(&str, &[&str])] = &[
     ("open", OPENING),
     ("lookup", &["found", "absent", "15", "16", "17"]),
     ("scan", &["found", "absent", "15", "17"]),
+    ("lookup in an opened book", &["found", "absent", "15", "17"]),
+    ("batch", BATCH),
     ("start", &["0"]),
     ("step", &["entry", "end", "17"]),
     ("page", &["entries", "too few places", "17"]),
@@ -82,6 +88,7 @@ const GROUPS: &[(&str, &[&str])] = &[
     ),
     ("asked name", NAME),
     ("name scanned for", NAME),
+    ("name looked up in an opened book", NAME),
     (
         "scan beside lookup",
         &[
@@ -97,6 +104,73 @@ const GROUPS: &[(&str, &[&str])] = &[
             "lookup 17, scan absent",
         ],
     ),
+    (
+        "lookup in other bytes than were opened",
+        &["found", "absent"],
+    ),
+    (
+        "book of a batch",
+        &[
+            "depth 1",
+            "depth 2",
+            "depth 3",
+            "depth 4",
+            "depth 5",
+            "4,096 chunks",
+            "refused, with whole names",
+            "refused, with too little room",
+            "refused, with a broken name",
+            "refused, with a broken name and too little room",
+        ],
+    ),
+    (
+        "names of a batch",
+        &[
+            "none",
+            "1 name",
+            "2 to 8 names",
+            "9 to 99 names",
+            "100 names or more",
+            "one of 0 bytes",
+            "one of 1 byte",
+            "one of 1,024 bytes",
+            "one of 1,025 bytes",
+            "a longer one",
+            "one that stands there before",
+        ],
+    ),
+    (
+        "broken name of a batch",
+        &[
+            "length with a zero in front",
+            "length with two zeros or more in front",
+            "length of more than nine bytes",
+            "end behind nine bytes of the length",
+            "end inside the length",
+            "length 1 too high",
+            "length too high by more",
+            "length of 2^32 or more",
+            "length 2^63 - 1",
+            "the first",
+            "a later one",
+            "too little room besides",
+        ],
+    ),
+    (
+        "room of a batch",
+        &[
+            "none",
+            "none, and none needed",
+            "32 bytes short",
+            "31 bytes short",
+            "1 byte short",
+            "shorter",
+            "just enough",
+            "1 to 31 bytes more",
+            "32 bytes more or longer",
+        ],
+    ),
+    ("answer of a batch", &["found", "absent", "15"]),
     (
         "descent",
         &[
@@ -115,6 +189,7 @@ const GROUPS: &[(&str, &[&str])] = &[
     ),
     ("lookup with a record of no book", ASKING),
     ("scan with a record of no book", ASKING),
+    ("lookup in an opened book with a record of no book", ASKING),
     ("step with a record of no book", ASKING),
     ("page with a record of no book", ASKING),
     (

@@ -3,6 +3,7 @@
 
 #![deny(unsafe_code)]
 
+mod batches;
 mod compare;
 mod coverage;
 mod features;

@@ -4,7 +4,7 @@ use crate::compare::{Asked, Differ};
 use crate::{coverage, features, program};
 use second::generate::questions::{about, questions};
 use second::generate::{self, Aim, Call, Case, Input, Random};
-use second::{chunk_entries, entry_bytes, open, Record, NONE};
+use second::{chunk_entries, entry_bytes, Record, NONE};
 use std::path::Path;
 
 /// The program is run on the file of every so many cases.
@@ -57,7 +57,7 @@ pub fn run(differ: &mut Differ, list: &Path, seed: u64, index: u64) -> Result<()
         told.map_err(|answers| failed(asked, answers))?;
     }
     aim_is_hit(differ, &case).map_err(|answers| failed(shown(&case.file, &case.call), answers))?;
-    if let Some(record) = &asked.opened {
+    if let Ok(record) = &asked.opening {
         features::count(&mut differ.coverage, &case.file, record);
     }
     Ok(())
@@ -66,11 +66,11 @@ pub fn run(differ: &mut Differ, list: &Path, seed: u64, index: u64) -> Result<()
 /// Both may be wrong alike: what the case was made for has to come of it.
 fn aim_is_hit(differ: &mut Differ, case: &Case) -> Result<(), String> {
     let outcome = generate::outcome_of(&case.file, &case.call);
-    if let (Aim::Likely(_), Some(refusal)) = (case.aim, outcome.refusal()) {
+    if let (Aim::Likely(_), Some(refusal)) = (&case.aim, outcome.refusal()) {
         let number = coverage::number(refusal.number);
         differ.coverage.count("the earlier of two damages", number);
     }
-    if case.aim.allows(outcome) {
+    if case.aim.allows(&outcome) {
         Ok(())
     } else {
         Err(format!("aim: {:?}\nboth: {outcome:?}", case.aim))
@@ -101,9 +101,9 @@ fn read_back(differ: &mut Differ, random: &mut Random, input: &Input) -> Result<
     for call in about(random, &file, None) {
         compare(&call)?;
     }
-    let record = match asked.opened {
-        Some(record) => record,
-        None => return Err(format!("read back: both refuse, {:?}", open(&file))),
+    let record = match asked.opening {
+        Ok(record) => record,
+        Err(refusal) => return Err(format!("read back: both refuse, {refusal:?}")),
     };
     if listed(&file, record, compare)? != input.entries {
         return Err("read back: both list other entries than were given".to_owned());

@@ -2,8 +2,6 @@
 
 use std::os::unix::ffi::OsStrExt;
 
-use hodsplinter::Lookup;
-
 use crate::args::{Given, Spec};
 use crate::finding;
 use crate::input;
@@ -22,11 +20,9 @@ pub fn run(given: &Given, out: &mut Output) -> Result<Status, Trouble> {
     let book = input::open(path, &bytes)?;
     let subject = input::called(path);
     let asked = shown_path(name);
-    let entry = match book.lookup(name.as_bytes()) {
-        Ok(Lookup::Found { entry, .. }) => entry,
-        Ok(Lookup::Absent { .. }) => {
-            return Err(Trouble::refused(&subject, format!("{asked} is absent")))
-        }
+    let entry = match book.find(name.as_bytes()) {
+        Ok(Some(entry)) => entry,
+        Ok(None) => return Err(Trouble::refused(&subject, format!("{asked} is absent"))),
         Err(refusal) => return Err(finding::refused_name(&subject, name.len(), refusal)),
     };
     let stored = book.stored(&entry).ok_or_else(|| {

@@ -1,58 +1,104 @@
 //! `hods find`: what a book says of names.
 
-use std::ffi::OsStr;
+use std::ffi::{OsStr, OsString};
 use std::os::unix::ffi::OsStrExt;
 
 use hodsplinter::{Book, Chain, Entry, Refusal, Trail};
 
-use crate::args::{flag, Given, Spec};
+use crate::args::{flag, valued, Given, Spec};
 use crate::finding;
 use crate::input;
+use crate::names::Names;
 use crate::output::Output;
+use crate::progress::Progress;
 use crate::status::{Status, Trouble};
-use crate::text::{shown, shown_path};
+use crate::text::shown;
 
-pub const OPTIONS: [Spec; 1] = [flag("chain", None)];
+pub const OPTIONS: [Spec; 3] = [
+    flag("chain", None),
+    flag("trail", None),
+    valued("names", None),
+];
 
-/// Looks each name up; the status is that of the worst answer, or that of the book.
+/// Looks each name up, those of the command line first; the status is that of the worst answer, or that of the book.
 pub fn run(given: &Given, out: &mut Output) -> Result<Status, Trouble> {
-    let (path, names) = match given.operands.split_first() {
-        Some((path, names)) if !names.is_empty() => (path, names),
-        _ => return Err(Trouble::usage("find: a book and a name are to be given")),
-    };
+    let (path, names) = operands(given)?;
+    // A file that is not there is told before a long book is read.
+    let listed = given.value("names").map(Names::open).transpose()?;
     let bytes = input::read_book(path)?;
-    let mut status = Status::Good;
-    let way = if given.has("chain") {
-        let chain = input::open_chain(path, &bytes)?;
-        if let Some(refusal) = chain.broken_index() {
-            let trouble = finding::refused(&input::called(path), &bytes, refusal);
-            out.complain(&trouble)?;
-            status = trouble.status;
-        }
-        Way::Chain(chain)
-    } else {
-        Way::Index(input::open(path, &bytes)?)
-    };
+    let (way, mut status) = open(given, path, &bytes, out)?;
     for name in names {
-        let answer = find(&way, path, name, out)?;
-        status = status.max(answer);
+        let name = name.as_bytes();
+        let answer = told(&way, name)
+            .map_err(|refusal| finding::refused_name(&input::called(path), name.len(), refusal));
+        status = status.max(print(answer, out)?);
     }
-    Ok(status)
+    match listed {
+        Some(names) => Ok(status.max(all_told(&way, names, out)?)),
+        None => Ok(status),
+    }
+}
+
+/// The book, and the names that stand beside it on the command line.
+fn operands(given: &Given) -> Result<(&OsStr, &[OsString]), Trouble> {
+    if given.has("chain") && given.has("trail") {
+        let why = "find: --chain and --trail exclude each other";
+        return Err(Trouble::usage(why));
+    }
+    let listed = given.value("names");
+    match given.operands.split_first() {
+        Some((path, _)) if path == "-" && listed == Some(OsStr::new("-")) => Err(Trouble::usage(
+            "find: only one of the book and --names can be standard input",
+        )),
+        Some((path, names)) if listed.is_some() || !names.is_empty() => Ok((path, names)),
+        _ => Err(Trouble::usage(
+            "find: a book is to be given, and a name or --names",
+        )),
+    }
 }
 
 /// How names are looked up.
 enum Way<'a> {
     /// From the root down.
     Index(Book<'a>),
+    /// The same, and the chunks on the way are told.
+    Trail(Book<'a>),
     /// From the first listing chunk on.
     Chain(Chain<'a>),
+}
+
+/// The way that is asked for. A broken index, which the chain does without, is told and gives the status.
+fn open<'a>(
+    given: &Given,
+    path: &OsStr,
+    bytes: &'a [u8],
+    out: &mut Output,
+) -> Result<(Way<'a>, Status), Trouble> {
+    if !given.has("chain") {
+        let book = input::open(path, bytes)?;
+        let way = if given.has("trail") {
+            Way::Trail(book)
+        } else {
+            Way::Index(book)
+        };
+        return Ok((way, Status::Good));
+    }
+    let chain = input::open_chain(path, bytes)?;
+    let mut status = Status::Good;
+    if let Some(refusal) = chain.broken_index() {
+        let trouble = finding::refused(&input::called(path), bytes, refusal);
+        out.complain(&trouble)?;
+        status = trouble.status;
+    }
+    Ok((Way::Chain(chain), status))
 }
 
 impl<'a> Way<'a> {
     /// The entry of a name, and the chunks that were opened, as far as they are told.
     fn find(&self, name: &[u8]) -> Result<(Option<Entry<'a>>, String), Refusal> {
         match self {
-            Way::Index(book) => {
+            Way::Index(book) => Ok((book.find(name)?, String::new())),
+            Way::Trail(book) => {
                 let answer = book.lookup(name)?;
                 let chunks = format!("; {}", opened(&answer.trail()));
                 Ok((answer.entry(), chunks))
@@ -62,25 +108,54 @@ impl<'a> Way<'a> {
     }
 }
 
-fn find(way: &Way, path: &OsStr, name: &OsStr, out: &mut Output) -> Result<Status, Trouble> {
-    let asked = shown_path(name);
-    match way.find(name.as_bytes()) {
-        Ok((Some(entry), chunks)) => {
-            let stored = stored_name(&entry, name.as_bytes());
-            out.line(&format!(
-                "{asked}: found{stored}, section {}, offset {}, length {}{chunks}",
+/// The names of a file. What was printed goes out before the tool waits for more of them, so that a program that feeds it gets its answers.
+fn all_told(way: &Way, mut names: Names, out: &mut Output) -> Result<Status, Trouble> {
+    let mut status = Status::Good;
+    let what = format!("looking up the names in {}", names.called());
+    let mut progress = Progress::of_printing(what, names.length());
+    loop {
+        if !names.has_line() {
+            out.flush()?;
+        }
+        let line = match names.read()? {
+            Some(line) => line,
+            None => return Ok(status),
+        };
+        let answer = told(way, line.name)
+            .map_err(|refusal| finding::refused_name(&line.place(), line.size, refusal));
+        if answer.is_err() {
+            progress.wipe();
+        }
+        status = status.max(print(answer, out)?);
+        progress.add(line.taken);
+    }
+}
+
+/// What the book says of a name, and how that counts.
+fn told(way: &Way, name: &[u8]) -> Result<(Status, String), Refusal> {
+    let asked = shown(name);
+    Ok(match way.find(name)? {
+        (Some(entry), chunks) => {
+            let text = format!(
+                "{asked}: found{}, section {}, offset {}, length {}{chunks}",
+                stored_name(&entry, name),
                 entry.section(),
                 entry.offset(),
                 entry.length()
-            ))?;
-            Ok(Status::Good)
+            );
+            (Status::Good, text)
         }
-        Ok((None, chunks)) => {
-            out.line(&format!("{asked}: absent{chunks}"))?;
-            Ok(Status::Refused)
+        (None, chunks) => (Status::Refused, format!("{asked}: absent{chunks}")),
+    })
+}
+
+fn print(answer: Result<(Status, String), Trouble>, out: &mut Output) -> Result<Status, Trouble> {
+    match answer {
+        Ok((status, text)) => {
+            out.line(&text)?;
+            Ok(status)
         }
-        Err(refusal) => {
-            let trouble = finding::refused_name(&input::called(path), name.len(), refusal);
+        Err(trouble) => {
             out.complain(&trouble)?;
             Ok(trouble.status)
         }

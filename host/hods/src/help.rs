@@ -8,7 +8,7 @@ Checks, lists, searches and writes compiled HTML Help books (CHM).
 Commands:
   check BOOK..           whether books keep every rule
   list BOOK              the entries of a book
-  find BOOK NAME..       where names stand, and the chunks opened for them
+  find BOOK NAME..       where names stand, or that they are absent
   cat BOOK NAME          the stored bytes of an entry of section 0
   write -o BOOK DIR      a new book of the files in a folder, or of a list
 
@@ -45,16 +45,20 @@ that do not print are written as \\xNN, a backslash as \\\\.
 ";
 
 pub const FIND: &str = "\
-Usage: hods find [--chain] BOOK NAME..
+Usage: hods find [--chain | --trail] [--names FILE] BOOK [NAME]..
 
 Looks each name up and says section, offset and length of its entry, or that it
-is absent, and the numbers of the chunks opened on the way. The letters A to Z
-and a to z are the same in a name.
+is absent. The letters A to Z and a to z are the same in a name.
 
+      --names FILE       look up the names in this file too, a line each, behind
+                         those that are given; - is standard input
+      --trail            print the numbers of the chunks opened on the way too
       --chain            look along the chain of listing chunks, without the
-                         index; no numbers of chunks are printed then. A book
-                         that only refusal 14, a broken index, keeps from
-                         opening is told so and searched all the same
+                         index. A book that only refusal 14, a broken index,
+                         keeps from opening is told so and searched all the same
+
+A line of FILE ends with LF or CR LF and is a name as it stands, unescaped.
+An empty line is refused, as is every name of other than 1 to 1,024 bytes.
 ";
 
 pub const CAT: &str = "\

@@ -25,6 +25,11 @@ pub fn called(path: &OsStr) -> String {
     }
 }
 
+/// What a line of a file is called in messages.
+pub fn at_line(file: &str, line: usize) -> String {
+    format!("{file}: line {line}")
+}
+
 /// The bytes of a book. What its first bytes show to be no book is not read to the end, however long it is.
 pub fn read_book(path: &OsStr) -> Result<Vec<u8>, Trouble> {
     let judge = |front: &[u8]| match Book::open(front) {

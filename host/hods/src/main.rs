@@ -10,6 +10,7 @@ mod finding;
 mod help;
 mod input;
 mod list;
+mod names;
 mod newfile;
 mod output;
 mod progress;

@@ -33,6 +33,15 @@ impl Progress {
         }
     }
 
+    /// The same for work that prints as it goes: on a terminal what it prints shows how far it has come, and a line between would be in its way.
+    pub fn of_printing(what: String, total: u64) -> Progress {
+        let mut progress = Progress::new(what, total);
+        if is_terminal("/dev/stdout") {
+            progress.next = None;
+        }
+        progress
+    }
+
     /// So many bytes more are done.
     pub fn add(&mut self, bytes: usize) {
         self.done += bytes as u64;
@@ -41,6 +50,14 @@ impl Progress {
             self.next = Some(now + PAUSE);
             self.shown = true;
             let _ = write!(io::stderr(), "\rhods: {}: {}\x1b[K", self.what, self.part());
+        }
+    }
+
+    /// Wipes the line, in front of a message or at the end.
+    pub fn wipe(&mut self) {
+        if self.shown {
+            self.shown = false;
+            let _ = write!(io::stderr(), "\r\x1b[K");
         }
     }
 
@@ -54,9 +71,7 @@ impl Progress {
 
 impl Drop for Progress {
     fn drop(&mut self) {
-        if self.shown {
-            let _ = write!(io::stderr(), "\r\x1b[K");
-        }
+        self.wipe();
     }
 }
 

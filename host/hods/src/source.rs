@@ -70,14 +70,10 @@ impl Source {
     pub fn place(&self, entry: Option<usize>) -> String {
         let line = entry.and_then(|i| self.entries[i].line);
         match line {
-            Some(line) => at_line(&self.subject, line),
+            Some(line) => input::at_line(&self.subject, line),
             None => self.subject.clone(),
         }
     }
-}
-
-fn at_line(subject: &str, line: usize) -> String {
-    format!("{subject}: line {line}")
 }
 
 /// The files of a folder and of the folders in it. Each has its path from the folder, with `/` in front, as its name; they are stored in
@@ -205,7 +201,7 @@ fn read_list(path: &OsStr) -> Result<Vec<Listed>, Trouble> {
         if line.is_empty() || line.starts_with(b"#") {
             continue;
         }
-        let trouble = |why| Trouble::failed(&at_line(&input::called(path), n), why);
+        let trouble = |why| Trouble::failed(&input::at_line(&input::called(path), n), why);
         entries.push(read_line(n, line).map_err(trouble)?);
     }
     Ok(entries)

@@ -13,20 +13,19 @@ use crate::sys;
 /// A book whose header, chunks, chain and tree keep every rule of docs/FORMAT.md. It borrows the bytes of the file and copies none of them.
 ///
 /// ```
-/// use hodsplinter::{Book, Lookup};
+/// use hodsplinter::Book;
 ///
 /// let file = std::fs::read("../../samples/sample.chm")?;
 /// let book = Book::open(&file)?;
 /// for entry in book.entries() {
 ///     println!("{:?} {}", entry.name(), entry.length());
 /// }
-/// match book.lookup("/A.HTM")? {
-///     Lookup::Found { entry, trail } => {
+/// match book.find("/A.HTM")? {
+///     Some(entry) => {
 ///         assert_eq!(entry.name(), b"/a.htm");
 ///         assert_eq!(book.stored(&entry), Some(&b"hello"[..]));
-///         assert_eq!(*trail, [0]);
 ///     }
-///     Lookup::Absent { .. } => panic!("the sample book has this page"),
+///     None => panic!("the sample book has this page"),
 /// }
 /// # Ok::<(), Box<dyn std::error::Error>>(())
 /// ```
@@ -64,8 +63,29 @@ impl<'a> Book<'a> {
         self.file
     }
 
-    /// Looks a name up by the descent from the root. `Absent` is said only where no listing chunk holds the name: that is proved for every book
-    /// that opens and every name of 1 to 1,024 bytes. Names of other lengths get the refusal 15.
+    /// Looks a name up by the descent from the root: the entry, or `None` only where no listing chunk holds the name. That is proved for every book that opens and
+    /// every name of 1 to 1,024 bytes. Names of other lengths get the refusal 15.
+    ///
+    /// This is the lookup to use. It checks no chunk again, and its answers are those of [`Book::lookup`] where these bytes gave this record when they were
+    /// opened (docs/FORMAT.md, K23). A `Book` comes from opening alone, keeps bytes and record together, and borrows the bytes so that they cannot change: so this
+    /// holds for every `Book`.
+    ///
+    /// ```
+    /// let file = std::fs::read("../../samples/several.chm")?;
+    /// let book = hodsplinter::Book::open(&file)?;
+    /// assert_eq!(book.find("/zones.htm")?.unwrap().name(), b"/Zones.htm");
+    /// assert_eq!(book.find("/no-such-page")?, None);
+    /// assert_eq!(book.find("").unwrap_err().number(), 15);
+    /// # Ok::<(), Box<dyn std::error::Error>>(())
+    /// ```
+    pub fn find(&self, name: impl AsRef<[u8]>) -> Result<Option<Entry<'a>>, Refusal> {
+        let mut answer = [0; sys::ENTRY];
+        let record = self.record.numbers();
+        let found = sys::lookup_opened(self.file, &record, name.as_ref(), &mut answer)?;
+        Ok(found.then(|| Entry::of(self.file, &answer)))
+    }
+
+    /// The same with the trail: the numbers of the chunks that the descent went through. It checks each of them again, so that it is slower than [`Book::find`].
     ///
     /// ```
     /// let file = std::fs::read("../../samples/several.chm")?;
@@ -90,7 +110,7 @@ impl<'a> Book<'a> {
     }
 
     /// Looks a name up along the chain from the first listing chunk on, without the index. It checks every chunk up to the one that holds the name, so
-    /// that it is slower than [`Book::lookup`]; that both give the same entry, and say of the same names that they are absent, is proved for every book that
+    /// that it is slower than [`Book::find`]; that both give the same entry, and say of the same names that they are absent, is proved for every book that
     /// opens. Names of other than 1 to 1,024 bytes get the refusal 15.
     ///
     /// ```
@@ -98,7 +118,7 @@ impl<'a> Book<'a> {
     /// let book = hodsplinter::Book::open(&file)?;
     /// let entry = book.scan("/zones.htm")?.unwrap();
     /// assert_eq!(entry.name(), b"/Zones.htm");
-    /// assert_eq!(Some(entry), book.lookup("/zones.htm")?.entry());
+    /// assert_eq!(Some(entry), book.find("/zones.htm")?);
     /// assert_eq!(book.scan("/no-such-page")?, None);
     /// assert_eq!(book.scan("").unwrap_err().number(), 15);
     /// # Ok::<(), Box<dyn std::error::Error>>(())

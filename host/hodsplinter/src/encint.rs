@@ -6,7 +6,7 @@ pub fn size(n: u64) -> u64 {
     (bits + 6) / 7
 }
 
-/// Writes the ENCINT of a number. From 2^63 on it has ten bytes, which the writer of heads refuses.
+/// Writes the ENCINT of a number. From 2^63 on it has ten bytes, which the library refuses.
 pub fn push(out: &mut Vec<u8>, n: u64) {
     for group in (1..size(n)).rev() {
         out.push(0x80 | (n >> (7 * group)) as u8);

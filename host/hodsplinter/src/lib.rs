@@ -1,4 +1,4 @@
-//! The directory of compiled HTML Help books (CHM, the ITSF format): open and check a book, list its entries, look a name up, hand out stored bytes,
+//! The directory of compiled HTML Help books (CHM, the ITSF format): open and check a book, list its entries, look one name up or many, hand out stored bytes,
 //! write the head of a new book.
 //!
 //! This is a safe wrapper over the static library of the repository, whose functions are proved, for all inputs, to meet their contracts, to
@@ -6,7 +6,9 @@
 //! itself. Limits and refusals are those of docs/FORMAT.md, cited here by their rows.
 //!
 //! - [`Book::open`] checks a whole file and gives a [`Book`], or the first [`Refusal`].
-//! - [`Book::lookup`] finds an entry by its name, [`Book::scan`] does so without the index, [`Book::entries`] lists all of them.
+//! - [`Book::find`] finds an entry by its name, [`Book::lookup`] also tells the chunks of the descent, [`Book::scan`] does without the index; [`Book::entries`] lists
+//!   all entries.
+//! - [`batch`] opens a book and looks many names up, in one call.
 //! - [`Chain::open`] takes books with a broken index too, for scans alone.
 //! - [`Book::stored`] lends the bytes of an entry of section 0, [`Book::part`] any part of the file.
 //! - [`write_head`] makes the head of a new book from entries.
@@ -17,6 +19,7 @@
 #![deny(unsafe_code)]
 #![warn(missing_docs)]
 
+mod batch;
 mod book;
 mod chain;
 mod encint;
@@ -29,6 +32,7 @@ mod refusal;
 mod sys;
 mod writer;
 
+pub use batch::{batch, batch_bytes, push_name, read_answers, Answer, ANSWER};
 pub use book::Book;
 pub use chain::Chain;
 pub use entry::{name_order, Entry, Lookup, Trail};

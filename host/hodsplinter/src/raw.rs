@@ -28,6 +28,22 @@ extern "C" {
         name_len: usize,
         answer: *mut u64,
     ) -> u64;
+    fn hods_lookup_opened(
+        file: *const u8,
+        len: usize,
+        record: *const u64,
+        name: *const u8,
+        name_len: usize,
+        answer: *mut u64,
+    ) -> u64;
+    fn hods_batch(
+        file: *const u8,
+        len: usize,
+        names: *const u8,
+        names_len: usize,
+        answers: *mut u8,
+        answers_len: usize,
+    ) -> u64;
     fn hods_start(record: *const u64, cursor: *mut u64) -> u64;
     fn hods_step(
         file: *const u8,
@@ -96,6 +112,37 @@ pub fn scan(file: &[u8], record: &[u64; RECORD], name: &[u8], answer: &mut [u64;
             name.as_ptr(),
             name.len(),
             answer.as_mut_ptr(),
+        )
+    }
+}
+
+pub fn lookup_opened(
+    file: &[u8],
+    record: &[u64; RECORD],
+    name: &[u8],
+    answer: &mut [u64; 5],
+) -> u64 {
+    unsafe {
+        hods_lookup_opened(
+            file.as_ptr(),
+            file.len(),
+            record.as_ptr(),
+            name.as_ptr(),
+            name.len(),
+            answer.as_mut_ptr(),
+        )
+    }
+}
+
+pub fn batch(file: &[u8], names: &[u8], answers: &mut [u8]) -> u64 {
+    unsafe {
+        hods_batch(
+            file.as_ptr(),
+            file.len(),
+            names.as_ptr(),
+            names.len(),
+            answers.as_mut_ptr(),
+            answers.len(),
         )
     }
 }

@@ -33,7 +33,15 @@ impl Refusal {
         }
     }
 
-    /// The number in the table of docs/FORMAT.md, 1 to 20.
+    /// The status of an answer of a batch is a number alone.
+    pub(crate) fn of_status(status: u64) -> Refusal {
+        Refusal {
+            number: status as u8,
+            place: NO_CHUNK,
+        }
+    }
+
+    /// The number in the table of docs/FORMAT.md, 1 to 20 or 22.
     pub fn number(self) -> u8 {
         self.number
     }
@@ -60,15 +68,15 @@ impl Refusal {
 
     fn meaning(self) -> (&'static str, &'static str) {
         let at = usize::from(self.number).wrapping_sub(1);
-        MEANINGS
-            .get(at)
-            .copied()
-            .unwrap_or(("", "a refusal that is not in the table"))
+        MEANINGS.get(at).copied().unwrap_or(NOT_GIVEN)
     }
 }
 
+/// What a number says that the table lacks.
+const NOT_GIVEN: (&str, &str) = ("", "a refusal that is not in the table");
+
 /// Rows and rule of the refusals from 1 on.
-const MEANINGS: [(&str, &str); 20] = [
+const MEANINGS: [(&str, &str); 22] = [
     ("", "the file has fewer than 96 bytes"),
     (
         "F1, F5, F6",
@@ -122,6 +130,11 @@ const MEANINGS: [(&str, &str); 20] = [
     ),
     ("D8, D11", "the head would need more than 4,096 chunks or a depth above 5"),
     ("", "the lent output is shorter than the head"),
+    NOT_GIVEN,
+    (
+        "B2, B5",
+        "a name is cut off or its length is no ENCINT, or the room for the answers is too short",
+    ),
 ];
 
 impl fmt::Display for Refusal {
@@ -152,7 +165,7 @@ mod tests {
         let format = fs::read_to_string("../../docs/FORMAT.md").unwrap();
         let has = |row: &str| format.contains(&format!("\n| {row} |"));
         let mut sentences = HashSet::new();
-        for number in 1..=20 {
+        for number in (1..=20).chain([22]) {
             let place = if (8..=12).contains(&number) {
                 7
             } else {
@@ -170,7 +183,7 @@ mod tests {
             assert_eq!(sentence.strip_prefix(&front), Some(refusal.rule()));
             assert!(sentences.insert(refusal.rule()), "{sentence}");
         }
-        for number in [0, 21, 29, 254] {
+        for number in [0, 21, 23, 28, 29, 254] {
             assert!(!sentences.contains(coded(number, NO_CHUNK).rule()));
         }
     }

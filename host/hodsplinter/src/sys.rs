@@ -39,6 +39,19 @@ pub fn scan(file: &[u8], record: &[u64; RECORD], name: &[u8], answer: &mut [u64;
     told(raw::scan(file, record, name, answer))
 }
 
+pub fn lookup_opened(
+    file: &[u8],
+    record: &[u64; RECORD],
+    name: &[u8],
+    answer: &mut [u64; ENTRY],
+) -> Told {
+    told(raw::lookup_opened(file, record, name, answer))
+}
+
+pub fn batch(file: &[u8], names: &[u8], answers: &mut [u8]) -> Told {
+    told(raw::batch(file, names, answers))
+}
+
 pub fn start(record: &[u64; RECORD], cursor: &mut [u64; 2]) -> Told {
     told(raw::start(record, cursor))
 }

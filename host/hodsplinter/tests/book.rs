@@ -123,27 +123,34 @@ fn every_name_is_found() {
     assert!(book.lookup("x".repeat(1024)).is_ok());
 }
 
-/// The way along the chain finds the same entries, and lacks the same names.
+/// The lookup that checks nothing again and the way along the chain find the same entries, and lack the same names.
 #[test]
-fn scans_and_lookups_agree() {
+fn all_three_ways_agree() {
     for sample_name in ["sample.chm", "several.chm"] {
         let file = sample(sample_name);
         let book = Book::open(&file).unwrap();
         for entry in book.entries() {
             let name = entry.name();
-            assert_eq!(book.scan(name), Ok(Some(entry)));
-            assert_eq!(book.scan(name.to_ascii_uppercase()), Ok(Some(entry)));
+            for asked in [name.to_vec(), name.to_ascii_uppercase()] {
+                assert_eq!(book.find(&asked), Ok(Some(entry)));
+                assert_eq!(book.scan(&asked), Ok(Some(entry)));
+            }
             let beside = [name, b"\0"].concat();
-            assert_eq!(book.scan(&beside), Ok(None));
+            assert_eq!(
+                (book.find(&beside), book.scan(&beside)),
+                (Ok(None), Ok(None))
+            );
             let looked_up = book.lookup(&beside).unwrap();
             assert_eq!(looked_up.entry(), None);
         }
         for absent in ["!", "~", "/no-such-page", &"x".repeat(1024)] {
-            assert_eq!(book.scan(absent), Ok(None));
+            assert_eq!((book.find(absent), book.scan(absent)), (Ok(None), Ok(None)));
         }
         for size in [0, 1025, 100_000] {
-            let refusal = book.scan("x".repeat(size)).unwrap_err();
+            let name = "x".repeat(size);
+            let refusal = book.scan(&name).unwrap_err();
             assert_eq!((refusal.number(), refusal.chunk()), (15, None));
+            assert_eq!(book.find(&name), Err(refusal));
         }
     }
 }

@@ -9,10 +9,24 @@ use std::cmp::Ordering;
 /// Looks a name up. `places` is the length of the trail that a caller lends; the answer's trail
 /// is what is to be written to its front (FORMAT K3 to K6, RO5).
 pub fn lookup(file: &[u8], record: &Record, name: &[u8], places: usize) -> Answer {
-    require((1..=1024).contains(&name.len()), 15)
+    require_name(name)
         .and_then(|()| require(places >= 5, 16))
         .and_then(|()| descend(file, record, name))
         .unwrap_or_else(Answer::Refused)
+}
+
+/// Whether a name may be asked for (FORMAT R15).
+pub(crate) fn require_name(name: &[u8]) -> Result<(), Refusal> {
+    require((1..=1024).contains(&name.len()), 15)
+}
+
+/// Whether a record may be asked with (FORMAT K12).
+pub(crate) fn require_record(file: &[u8], record: &Record) -> Result<(), Refusal> {
+    let good = record.density <= 7
+        && (1..=5).contains(&record.depth)
+        && (1..=4096).contains(&record.count)
+        && record.content <= file.len() as u64;
+    require(good, 17)
 }
 
 /// The descent for a name (FORMAT Q1 to Q6).
@@ -61,7 +75,7 @@ fn holding<'b, 'a>(entries: &'b [Entry<'a, Stored>], name: &[u8]) -> Option<&'b 
 
 /// Looks a name up along the chain, without the index (FORMAT K16 to K19, RO5).
 pub fn scan(file: &[u8], record: &Record, name: &[u8]) -> Reply {
-    require((1..=1024).contains(&name.len()), 15)
+    require_name(name)
         .and_then(|()| follow(file, record, name))
         .unwrap_or_else(Reply::Refused)
 }
@@ -151,19 +165,14 @@ struct Asked<'a> {
 
 impl<'a> Asked<'a> {
     fn new(file: &'a [u8], record: &Record) -> Result<Asked<'a>, Refusal> {
-        let length = file.len() as u64;
-        let good = record.density <= 7
-            && (1..=5).contains(&record.depth)
-            && (1..=4096).contains(&record.count)
-            && record.content <= length;
-        require(good, 17)?;
+        require_record(file, record)?;
         Ok(Asked {
             file,
             start: record.start,
             limits: Limits {
                 density: record.density,
                 count: record.count,
-                content_length: length - record.content,
+                content_length: file.len() as u64 - record.content,
             },
         })
     }

@@ -1,8 +1,8 @@
 //! Seeded cases to compare another implementation with this one.
 //!
 //! A case follows from a seed and its number alone. It says what it aims at where that is known,
-//! so that the generators can be tested too: a refusal, an answer that is none, or for a scan the
-//! entry that is found.
+//! so that the generators can be tested too: a refusal, an answer that is none, for a search the
+//! entry that is found, or for a batch all answers.
 
 pub mod ask;
 pub mod book;
@@ -18,8 +18,8 @@ pub mod write;
 pub use random::Random;
 
 use crate::{
-    chunk_entries, lookup, open, scan, step, write_head, Cursor, Record, Refusal, Reply, Report,
-    Step,
+    batch, chunk_entries, lookup, lookup_opened, open, scan, step, write_head, Cursor, Expected,
+    Record, Refusal, Reply, Report, Step,
 };
 
 /// What is asked of a file.
@@ -35,6 +35,17 @@ pub enum Call {
     Scan {
         record: Record,
         name: Vec<u8>,
+    },
+    /// A lookup in an opened book.
+    Opened {
+        record: Record,
+        name: Vec<u8>,
+    },
+    Batch {
+        /// The bytes of all names, with their lengths.
+        names: Vec<u8>,
+        /// The length of the lent slice for the answers.
+        room: usize,
     },
     Start {
         record: Record,
@@ -90,13 +101,17 @@ impl Input {
 }
 
 /// What has to come of a case.
-#[derive(Debug, Clone, Copy, PartialEq, Eq)]
+#[derive(Debug, Clone, PartialEq, Eq)]
 pub enum Aim {
     /// An answer that is no refusal.
     Good,
     /// The name is found in the entry of this report.
     Found(Report),
     Absent,
+    /// The name is found where it stands, or absent: no rule says which (FORMAT K24).
+    FoundThereOrAbsent,
+    /// The answers of a batch, in these bytes.
+    Answers(Vec<u8>),
     Refused(Refusal),
     /// This refusal, unless something else in the case hides it.
     Likely(Refusal),
@@ -111,31 +126,35 @@ impl Aim {
     }
 
     /// Whether this answer keeps what the case says; a hidden refusal does not break it.
-    pub fn allows(self, outcome: Outcome) -> bool {
+    pub fn allows(&self, outcome: &Outcome) -> bool {
         match self {
             Aim::Good => outcome.refusal().is_none(),
-            Aim::Found(report) => outcome == Outcome::Found(report),
-            Aim::Absent => outcome == Outcome::Absent,
-            Aim::Refused(aimed) => outcome == Outcome::Refused(aimed),
+            Aim::Found(report) => *outcome == Outcome::Found(*report),
+            Aim::Absent => *outcome == Outcome::Absent,
+            Aim::FoundThereOrAbsent => *outcome == Outcome::FoundThereOrAbsent,
+            Aim::Answers(aimed) => matches!(outcome, Outcome::Answers(answers) if answers == aimed),
+            Aim::Refused(aimed) => *outcome == Outcome::Refused(*aimed),
             Aim::Likely(_) | Aim::Free => true,
         }
     }
 }
 
 /// What came of a call, as far as an aim speaks of it.
-#[derive(Debug, Clone, Copy, PartialEq, Eq)]
+#[derive(Debug, Clone, PartialEq, Eq)]
 pub enum Outcome {
     Found(Report),
     Absent,
+    FoundThereOrAbsent,
+    Answers(Vec<u8>),
     Refused(Refusal),
     /// Any other answer.
     Other,
 }
 
 impl Outcome {
-    pub fn refusal(self) -> Option<Refusal> {
+    pub fn refusal(&self) -> Option<Refusal> {
         match self {
-            Outcome::Refused(refusal) => Some(refusal),
+            Outcome::Refused(refusal) => Some(*refusal),
             _ => None,
         }
     }
@@ -145,6 +164,13 @@ impl Outcome {
             Reply::Found(report) => Outcome::Found(report),
             Reply::Absent => Outcome::Absent,
             Reply::Refused(refusal) => Outcome::Refused(refusal),
+        }
+    }
+
+    fn of_opened(expected: Expected) -> Outcome {
+        match expected {
+            Expected::Exactly(reply) => Outcome::of_search(reply),
+            Expected::FoundThereOrAbsent => Outcome::FoundThereOrAbsent,
         }
     }
 }
@@ -168,11 +194,13 @@ pub fn case(seed: u64, index: u64) -> Case {
         return large::case(random, index / LARGE);
     }
     match random.below(100) {
-        0..=54 => opening::case(random),
-        55..=65 => ask::lookup_case(random),
-        66..=73 => ask::scan_case(random),
-        74..=82 => ask::step_case(random),
-        83..=84 => ask::part_case(random),
+        0..=47 => opening::case(random),
+        48..=55 => ask::lookup_case(random),
+        56..=63 => ask::scan_case(random),
+        64..=69 => ask::opened_case(random),
+        70..=77 => ask::batch_case(random),
+        78..=85 => ask::step_case(random),
+        86 => ask::part_case(random),
         _ => write::case(random),
     }
 }
@@ -223,6 +251,13 @@ pub fn outcome_of(file: &[u8], call: &Call) -> Outcome {
             places,
         } => return Outcome::of_search(lookup(file, record, name, *places).reply()),
         Call::Scan { record, name } => return Outcome::of_search(scan(file, record, name)),
+        Call::Opened { record, name } => {
+            return Outcome::of_opened(lookup_opened(open(file), file, record, name))
+        }
+        Call::Batch { names, room } => match batch(file, names, *room) {
+            Ok(answers) => return Outcome::Answers(answers),
+            Err(refusal) => Some(refusal),
+        },
         Call::Open => open(file).err(),
         Call::Step { record, cursor } => match step(file, record, *cursor) {
             Step::Refused(refusal) => Some(refusal),

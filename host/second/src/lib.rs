@@ -8,20 +8,24 @@
 #![forbid(unsafe_code)]
 
 mod ask;
+mod batch;
 mod chunk;
 mod frames;
 pub mod generate;
 mod name;
 mod number;
 mod open;
+mod opened;
 mod write;
 
 pub use ask::{chunk_entries, lookup, part, scan, start, step};
+pub use batch::{batch, batch_after, batch_names, ANSWER};
 pub use chunk::quick_words;
 pub use frames::{entry_bytes, frames};
 pub use name::compare;
 pub use number::{encint, read_encint};
 pub use open::open;
+pub use opened::{lookup_opened, stands_there, Expected};
 pub use write::write_head;
 
 /// Stands for no chunk where a chunk number is expected, and for no place in a refusal.
@@ -109,7 +113,7 @@ impl Answer {
     }
 }
 
-/// What a scan answers (FORMAT K16 to K19).
+/// What a scan or a lookup in an opened book answers (FORMAT K16 to K19, K22 to K24).
 #[derive(Debug, Clone, Copy, PartialEq, Eq)]
 pub enum Reply {
     Found(Report),

@@ -1,6 +1,6 @@
 //! The generators: what they call good is good, and what they aim at is hit.
 
-use second::generate::ask::{lookup_case, scan_case, step_case};
+use second::generate::ask::{batch_case, joined, lookup_case, opened_case, scan_case, step_case};
 use second::generate::book::{book, book_of_depth};
 use second::generate::damage::{damaged, damaged_twice, damages, varied};
 use second::generate::names::other_case;
@@ -201,13 +201,174 @@ fn scans_follow_no_index() {
             _ => unreachable!(),
         };
         let outcome = outcome_of(file, &case.call);
-        assert!(case.aim.allows(outcome), "{label}: {outcome:?}");
+        assert!(case.aim.allows(&outcome), "{label}: {outcome:?}");
         let found = lookup(file, record, name, 5).reply();
         let scanned = scan(file, record, name);
         assert!(both_searches(label, found, scanned), "{label}");
         pairs.insert((word(found), word(scanned)));
     }
     assert_eq!(pairs.len(), 9, "{pairs:?}");
+}
+
+/// What the rules say of a lookup in an opened book, in words. With the book's own record it is what
+/// lookup and scan say (FORMAT K23), otherwise just the name and the record are judged (FORMAT K24).
+fn opened_word(file: &[u8], record: &Record, name: &[u8]) -> &'static str {
+    let found = lookup(file, record, name, 5).reply();
+    if let Reply::Found(report) = found {
+        assert!(stands_there(file, &report, name));
+    }
+    match lookup_opened(open(file), file, record, name) {
+        Expected::Exactly(reply) => {
+            assert_eq!(reply, found);
+            assert_eq!(reply, scan(file, record, name));
+            let own = open(file) == Ok(*record);
+            match reply {
+                Reply::Found(_) if own => "found",
+                Reply::Absent if own => "absent",
+                Reply::Refused(refusal) if own => {
+                    assert_eq!(refusal, Refusal::new(15));
+                    "refused"
+                }
+                Reply::Refused(_) => "refused in other bytes",
+                _ => panic!("{reply:?}"),
+            }
+        }
+        Expected::FoundThereOrAbsent => match found {
+            Reply::Found(_) => "open, lookup finds",
+            Reply::Absent => "open, lookup does not find",
+            Reply::Refused(refusal) => {
+                assert_eq!(refusal, Refusal::new(17));
+                "open, lookup refuses"
+            }
+        },
+    }
+}
+
+/// Every aim of a lookup in an opened book is hit.
+#[test]
+fn lookups_in_opened_books() {
+    let random = &mut Random::new(20);
+    let mut seen = BTreeMap::new();
+    for _ in 0..3000 {
+        let case = opened_case(random);
+        let (file, label) = (&case.file, case.label);
+        let outcome = outcome_of(file, &case.call);
+        assert!(case.aim.allows(&outcome), "{label}: {outcome:?}");
+        let word = match &case.call {
+            Call::Opened { record, name } => opened_word(file, record, name),
+            _ => unreachable!(),
+        };
+        *seen.entry(word).or_insert(0) += 1;
+    }
+    assert_eq!(seen.len(), 7, "{seen:?}");
+    assert!(seen.values().all(|&count| count > 20), "{seen:?}");
+}
+
+/// The four numbers of a name by a search through the whole listing.
+fn listed_answer(file: &[u8], reports: &[Report], name: &[u8]) -> [u64; 4] {
+    let mut same = reports
+        .iter()
+        .filter(|report| compare(part(file, report.place, report.length), name).is_eq());
+    match (name.len(), same.next()) {
+        (1..=1024, Some(report)) => [0, report.section, report.offset, report.size],
+        (1..=1024, None) => [255, 0, 0, 0],
+        _ => [15, 0, 0, 0],
+    }
+}
+
+/// Checks the answers of a batch against the listing and counts their statuses.
+fn check_answers(file: &[u8], names: &[u8], answers: &[u8], statuses: &mut BTreeMap<u64, u64>) {
+    let names = batch_names(names).unwrap();
+    let reports = listing_by_chunks(file, &open(file).unwrap());
+    assert_eq!(answers.len(), 32 * names.len());
+    for (name, answer) in names.iter().zip(answers.chunks(32)) {
+        let numbers = listed_answer(file, &reports, name);
+        let bytes: Vec<u8> = numbers.iter().flat_map(|n| n.to_le_bytes()).collect();
+        assert_eq!(bytes, answer);
+        *statuses.entry(numbers[0]).or_insert(0) += 1;
+    }
+}
+
+/// Every aim of a batch is hit, and answers agree with the listing.
+#[test]
+fn batches_agree_with_the_listing() {
+    let random = &mut Random::new(21);
+    let mut statuses = BTreeMap::new();
+    let mut refused = BTreeSet::new();
+    for _ in 0..3000 {
+        let case = batch_case(random);
+        let (file, label) = (&case.file, case.label);
+        let outcome = outcome_of(file, &case.call);
+        assert!(case.aim.allows(&outcome), "{label}: {outcome:?}");
+        let (names, room) = match &case.call {
+            Call::Batch { names, room } => (names, *room),
+            _ => unreachable!(),
+        };
+        match batch(file, names, room) {
+            Ok(answers) => {
+                assert!(answers.len() <= room);
+                check_answers(file, names, &answers, &mut statuses);
+            }
+            Err(refusal) => {
+                refused.insert(refusal.number);
+            }
+        }
+    }
+    assert!(statuses.values().all(|&count| count > 200), "{statuses:?}");
+    assert_eq!(statuses.keys().copied().collect::<Vec<u64>>(), [0, 15, 255]);
+    assert_eq!(refused, (1..=14).chain([22]).collect());
+}
+
+/// FORMAT B2, B5: names cut at every byte are good just between two names, and a byte of room less
+/// than they need is too little.
+#[test]
+fn batches_cut_at_every_byte() {
+    let random = &mut Random::new(22);
+    for _ in 0..60 {
+        let book = book(random);
+        let file = book.bytes();
+        let items = book.items();
+        let mut names = vec![Vec::new(), random.pick(&items).name.clone()];
+        names.extend([vec![0xFF; 130], random.pick(&items).name.clone()]);
+        random.shuffle(&mut names);
+        let bytes = joined(&names);
+        let whole = batch(&file, &bytes, 128).unwrap();
+        let ends: Vec<usize> = (0..=4).map(|count| joined(&names[..count]).len()).collect();
+        for length in 0..=bytes.len() {
+            let cut = &bytes[..length];
+            match ends.iter().position(|&end| end == length) {
+                Some(count) => {
+                    let answers = whole[..32 * count].to_vec();
+                    assert_eq!(batch(&file, cut, 32 * count), Ok(answers));
+                    if count > 0 {
+                        let short = batch(&file, cut, 32 * count - 1);
+                        assert_eq!(short, Err(Refusal::new(22)));
+                    }
+                }
+                None => assert_eq!(batch(&file, cut, 128), Err(Refusal::new(22))),
+            }
+        }
+    }
+}
+
+/// FORMAT RO10: every row of damage is the answer of a batch, whatever the names and the room are.
+#[test]
+fn damage_comes_before_the_names() {
+    let random = &mut Random::new(23);
+    for damage in damages() {
+        let (broken, refusal) = damaged(random, damage);
+        let file = broken.bytes();
+        for (names, room) in [
+            (&b"\x01/"[..], 32),
+            (b"\x01/", 31),
+            (b"\x80\x01/", 32),
+            (b"\x02/", 0),
+            (b"", 0),
+        ] {
+            let told = batch(&file, names, room);
+            assert_eq!(told, Err(refusal), "{}", damage.label);
+        }
+    }
 }
 
 /// A step and the list of a whole chunk say the same, and both refuse the same.
@@ -373,7 +534,7 @@ fn a_run_meets_every_refusal() {
         let outcome = outcome_of(&case.file, &case.call);
         let (aim, label) = (case.aim, case.label);
         assert!(
-            aim.allows(outcome),
+            aim.allows(&outcome),
             "case {index}, {label}: {aim:?}, {outcome:?}"
         );
         let refusal = outcome.refusal();
@@ -384,7 +545,7 @@ fn a_run_meets_every_refusal() {
         *numbers.entry(number).or_insert(0) += 1;
         seen.insert(label);
     }
-    for number in 0..=20 {
+    for number in (0..=20).chain([22]) {
         assert!(numbers.get(&number) > Some(&20), "{number}: {numbers:?}");
     }
     assert_eq!(seen, labels().into_iter().collect());
@@ -403,7 +564,36 @@ fn questions_meet_every_refusal() {
             *numbers.entry(number).or_insert(0) += 1;
         }
     }
-    for number in 0..=20 {
+    for number in (0..=20).chain([22]) {
         assert!(numbers.get(&number) > Some(&20), "{number}: {numbers:?}");
     }
+}
+
+/// Whatever is looked up in a book with its own record is looked up there as in an opened book too.
+#[test]
+fn questions_ask_opened_books_the_same() {
+    let mut asked = 0;
+    for index in 0..1500 {
+        let random = &mut Random::of_case(3, index);
+        let case = case(1, index);
+        let opening = open(&case.file);
+        let calls = [vec![case.call.clone()], questions(random, &case)].concat();
+        let opened: BTreeSet<&Vec<u8>> = calls
+            .iter()
+            .filter_map(|call| match call {
+                Call::Opened { record, name } if opening == Ok(*record) => Some(name),
+                _ => None,
+            })
+            .collect();
+        for call in &calls {
+            match call {
+                Call::Lookup { record, name, .. } if opening == Ok(*record) => {
+                    assert!(opened.contains(name), "case {index}");
+                    asked += 1;
+                }
+                _ => {}
+            }
+        }
+    }
+    assert!(asked > 1000, "{asked}");
 }

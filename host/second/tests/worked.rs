@@ -440,6 +440,189 @@ fn order_of_the_checks_of_a_scan() {
     assert_eq!(scan(&file, &good, &[b'a'; 1025]), refused(15));
 }
 
+/// FORMAT RO5, K12 and K23: what a lookup in an opened book refuses, and what it answers with the
+/// record that opening gave.
+#[test]
+fn opened_sample_book() {
+    let file = sample_book();
+    let good = open(&file).unwrap();
+    let asked = |record, name: &[u8]| lookup_opened(open(&file), &file, &record, name);
+    let exactly = |reply| Expected::Exactly(reply);
+    let refused = |number| Expected::Exactly(Reply::Refused(Refusal::new(number)));
+    assert_eq!(asked(good, b"/A.HTM"), exactly(Reply::Found(PAGE)));
+    for absent in [&b"/a.ht"[..], b"/b", b"!", &[b'a'; 1024]] {
+        assert_eq!(asked(good, absent), exactly(Reply::Absent));
+    }
+    assert_eq!(asked(good, b""), refused(15));
+    assert_eq!(asked(good, &[b'a'; 1025]), refused(15));
+    let bad = Record { depth: 6, ..good };
+    assert_eq!(asked(bad, b""), refused(15));
+    assert_eq!(asked(bad, &[b'a'; 1025]), refused(15));
+    assert_eq!(asked(bad, &[b'a'; 1024]), refused(17));
+    let content = Record {
+        content: 4306,
+        ..good
+    };
+    assert_eq!(asked(content, b"/a.htm"), refused(17));
+    // The time is a number of the record too.
+    let other = Record { time: 0, ..good };
+    assert_eq!(asked(other, b"/a.htm"), Expected::FoundThereOrAbsent);
+}
+
+/// FORMAT K24: in a book that no longer opens nothing but R15 and K12 is settled.
+#[test]
+fn sample_book_changed_since() {
+    let file = sample_book();
+    let record = open(&file).unwrap();
+    let mut changed = file.clone();
+    changed[204] = b'Q';
+    let asked = |file: &[u8], name: &[u8]| lookup_opened(open(file), file, &record, name);
+    let refused = |number| Expected::Exactly(Reply::Refused(Refusal::new(number)));
+    for name in [&b"/"[..], b"/a.htm", b"/b"] {
+        assert_eq!(asked(&changed, name), Expected::FoundThereOrAbsent);
+    }
+    assert_eq!(asked(&changed, b""), refused(15));
+    // The content would start behind the end.
+    assert_eq!(asked(&file[..4299], b"/"), refused(17));
+    assert_eq!(asked(&file[..4299], b""), refused(15));
+    assert_eq!(asked(&file[..4300], b"/"), Expected::FoundThereOrAbsent);
+}
+
+/// FORMAT K24: what may be reported as found.
+#[test]
+fn names_that_stand_there() {
+    let file = b"xx/a.htm/A.HTM";
+    let there = |place, length, name: &[u8]| {
+        let report = Report {
+            place,
+            length,
+            section: 1 << 63,
+            offset: 7,
+            size: 7,
+        };
+        stands_there(file, &report, name)
+    };
+    assert!(there(2, 6, b"/a.htm") && there(2, 6, b"/A.Htm"));
+    assert!(there(8, 6, b"/a.htm") && there(8, 6, b"/A.HTM"));
+    for (place, length) in [(2, 5), (2, 7), (1, 6), (3, 6), (8, 7), (9, 6), (14, 0)] {
+        assert!(!there(place, length, b"/a.htm"));
+    }
+    assert!(!there(u64::MAX, 6, b"/a.htm") && !there(u64::MAX - 3, 6, b"/a.htm"));
+    assert!(!there(2, u64::MAX, b"/a.htm") && !there(2, u64::MAX - 1, b"/a.htm"));
+}
+
+/// Answers as they stand in the room (FORMAT B4).
+fn answers(groups: &[[u64; 4]]) -> Vec<u8> {
+    let numbers = groups.iter().flatten();
+    numbers.flat_map(|number| number.to_le_bytes()).collect()
+}
+
+/// `/`, `/A.HTM`, `/b`, the empty name and one of 1,025 bytes.
+fn five_names() -> Vec<u8> {
+    let mut names = b"\x01/\x06/A.HTM\x02/b\x00\x88\x01".to_vec();
+    names.extend([b'a'; 1025]);
+    names
+}
+
+const SHORT: Result<Vec<u8>, Refusal> = Err(Refusal {
+    number: 22,
+    place: NONE,
+});
+
+/// FORMAT B1 to B7, R22.
+#[test]
+fn sample_book_is_asked_for_many_names() {
+    let file = sample_book();
+    let names = five_names();
+    let told = answers(&[
+        [0, 0, 0, 0],
+        [0, 0, 0, 5],
+        [255, 0, 0, 0],
+        [15, 0, 0, 0],
+        [15, 0, 0, 0],
+    ]);
+    assert_eq!(told.len(), 160);
+    assert_eq!(told[32..40], [0; 8]);
+    assert_eq!(
+        told[56..72],
+        [5, 0, 0, 0, 0, 0, 0, 0, 255, 0, 0, 0, 0, 0, 0, 0]
+    );
+    // With more room, by 8 bytes say, there is no more to write.
+    for room in [160, 161, 168, 191, 192, usize::MAX] {
+        assert_eq!(batch(&file, &names, room), Ok(told.clone()));
+    }
+    for room in [159, 129, 128, 32, 31, 1, 0] {
+        assert_eq!(batch(&file, &names, room), SHORT);
+    }
+    assert_eq!(batch(&file, &names[..names.len() - 1], 160), SHORT);
+    for room in [0, 31, 160] {
+        assert_eq!(batch(&file, &[], room), Ok(Vec::new()));
+    }
+}
+
+/// FORMAT B2: just where a name ends the names may end.
+#[test]
+fn names_cut_at_every_byte() {
+    let file = sample_book();
+    let names = five_names();
+    let ends = [0, 2, 9, 12, 13, 1040];
+    assert_eq!(ends[5], names.len());
+    for length in 0..=names.len() {
+        let told = batch(&file, &names[..length], 160);
+        match ends.iter().position(|&end| end == length) {
+            Some(count) => assert_eq!(told.map(|told| told.len()), Ok(32 * count)),
+            None => assert_eq!(told, SHORT),
+        }
+    }
+}
+
+/// FORMAT N3, N4, N6 and B2: lengths that are none, or reach too far.
+#[test]
+fn lengths_that_are_refused() {
+    let file = sample_book();
+    let nine = [&[0xFF; 9][..], &[0x7F]].concat();
+    let most = [&[0xFF; 8][..], &[0x7F]].concat();
+    let lengths: [&[u8]; 9] = [
+        &[0x80, 0x01],
+        &[0x80, 0x80, 0x01],
+        &[0x80, 0x00],
+        &nine,
+        &most,
+        &[0x02],
+        &[0x81],
+        &[0xFF; 9],
+        &[0x90, 0x80, 0x80, 0x80, 0x01], // 1 in 32 bits
+    ];
+    assert_eq!(read_encint(&most), Some(((1 << 63) - 1, 9)));
+    assert_eq!(batch(&file, b"\x01/", 64), Ok(answers(&[[0; 4]])));
+    for length in lengths {
+        let alone = [length, b"/"].concat();
+        assert_eq!(batch(&file, &alone, 64), SHORT, "{length:X?}");
+        let last = [b"\x01/", length, b"/"].concat();
+        assert_eq!(batch(&file, &last, 64), SHORT, "{length:X?}");
+    }
+}
+
+/// FORMAT RO10: the book comes first, and both ways to break R22 are one refusal.
+#[test]
+fn order_of_the_checks_of_a_batch() {
+    let mut file = sample_book();
+    for names in [&b"\x01/"[..], b"\x01", b"\x80\x01", b"\xFF"] {
+        let refused = batch(&file[..95], names, 0);
+        assert_eq!(refused, Err(Refusal::new(1)));
+    }
+    for names in [&b"\x01/"[..], b"\x01", b"\x80\x01", b"\xFF"] {
+        assert_eq!(batch(&file, names, 0), SHORT);
+    }
+    file[204] = b'Q';
+    for names in [&b""[..], b"\x01/", b"\x01", b"\x80\x01"] {
+        for room in [0, 31, 32] {
+            let refused = batch(&file, names, room);
+            assert_eq!(refused, Err(Refusal::of_chunk(8, 0)));
+        }
+    }
+}
+
 /// FORMAT W2, RO6.
 #[test]
 fn order_of_the_checks_when_writing() {

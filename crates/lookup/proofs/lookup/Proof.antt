@@ -2,7 +2,8 @@ use native.Mathlib.Omega.{arith}
 use denote.Ref.{now}
 use borrow.Author.Needs.{needs}
 use Rattle.fields.proofs.Tests.{held, failed}
-use Rattle.lookup.proofs.Promised.{fits-told, name-bad, trail-short, record-bad, descended}
+use Rattle.book.proofs.Laws.{fits-told}
+use Rattle.lookup.proofs.Promised.{name-bad, trail-short, record-bad, descended}
 use Rattle.lookup.proofs.lookup.Statement.{statement}
 use Rattle.lookup.proofs.lookup.Tie as tie
 

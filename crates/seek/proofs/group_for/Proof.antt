@@ -1,13 +1,15 @@
 use borrow.Author.Needs.{needs}
 use mathlib.Core.Path.{_≡_, refl, ap, _∙_}
-use Prim.Native.Nat.{ℕ, _-_, _*_, _/_, _≤_}
+use Prim.Native.Nat.{ℕ, _-_, _*_, _/_, _≤_, _<_}
 use native.Mathlib.Nat.{le-div-iff-mul-le, div-le-self}
 use native.Mathlib.Omega.{arith}
+use lib.ListN.{length}
 use denote.Ref.{now}
 use Rattle.chunk.specs.Chunk.{countOf, spacingOf}
 use Rattle.chunk.proofs.Quick.{capped}
 use Rattle.seek.specs.Seek.{groupAt, groupFrom, groupIn}
 use Rattle.seek.proofs.Groups.{group-none, capped-group}
+use Rattle.seek.proofs.Steps.{counted}
 use Rattle.seek.proofs.group_for.Statement.{statement}
 use Rattle.seek.proofs.group_for.Tie as tie
 
@@ -28,6 +30,10 @@ returns c =
     let z = group-none (a .limits) (a .listing) (now (a .c)) (now (a .name)) (omega (arith, t .before .le16 .ensures)) in
     rw z (c .head .ensures, omega (arith, t .before .le16 .ensures))
 
+-- the chunk has its count
+has-count : (c : tie.Else1) → 4094 < length (now (c .before .before .before .before .args .c))
+has-count c = counted (now (c .before .before .before .before .args .c)) (omega (arith, c .before .le16 .ensures, c .if1 .left))
+
 spacing-requires : tie.Need-spacing-requires
 spacing-requires c κs = search needs
 
@@ -38,10 +44,11 @@ div-group-of : tie.Need-div-group-of
 div-group-of c = search needs
 
 group-of-requires : tie.Need-group-of-requires
-group-of-requires c κs = omega (arith, div-le-self (c .before .before .le16 .result - 1) (c .spacing .result))
+group-of-requires c κs =
+    (omega (arith, div-le-self (c .before .before .le16 .result - 1) (c .spacing .result)), has-count (c .before))
 
 group-at-requires : tie.Need-group-at-requires
-group-at-requires c κs = search needs
+group-at-requires c κs = has-count (c .before .before)
 
 -- the group is one of the chunk's
 inside : (c : tie.After-group-of) → c .group-of .result * c .before .spacing .result ≤ c .before .before .before .le16 .result - 1

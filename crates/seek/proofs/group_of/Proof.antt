@@ -1,8 +1,9 @@
 use borrow.Author.Needs.{needs}
-use mathlib.Core.Path.{_≡_, refl, sym, _∙_}
+use mathlib.Core.Path.{_≡_, refl, sym, ap, _∙_}
 use Prim.Native.Nat.{ℕ, _+_, _-_, _≤_}
 use native.Mathlib.Omega.{arith}
 use denote.Ref.{now}
+use Rattle.names.specs.Order.{isLess}
 use Rattle.seek.specs.Seek.{groupFrom}
 use Rattle.seek.proofs.Steps.{group-one, group-below, group-from}
 use Rattle.seek.proofs.group_of.Statement.{statement}
@@ -22,11 +23,14 @@ loop-holds c = (c .before .before .args .last, omega arith, omega arith, refl)
 add-half : tie.Need-add-half Inv-loop μ-loop
 add-half c = omega arith
 
-add-starts-above : tie.Need-add-starts-above Inv-loop μ-loop
-add-starts-above c = omega arith
+add-stands-to : tie.Need-add-stands-to Inv-loop μ-loop
+add-stands-to c = omega arith
 
-starts-above-requires : tie.Need-starts-above-requires Inv-loop μ-loop
-starts-above-requires c κs = search needs
+stands-to-requires : tie.Need-stands-to-requires Inv-loop μ-loop
+stands-to-requires c κs = search needs
+
+enum-told : tie.Need-enum-told Inv-loop μ-loop
+enum-told c = search needs
 
 sub-more : tie.Need-sub-more Inv-loop μ-loop
 sub-more c = omega arith
@@ -36,14 +40,18 @@ loop-less c = omega arith
 
 loop-again : tie.Need-loop-again Inv-loop μ-loop
 loop-again c =
-    let t = c .before .before in
+    let t = c .before .before .before in
     let l = t .before .loop in
     let a = t .before .before .before .before .args in (
       l .inv .0 - 1,
       omega arith,
       omega arith,
-      sym (group-below (a .listing) (now (a .c)) (now (a .name)) (l .inv .0) (l .lo) (l .more) (t .loop-test .taken) (l .inv .1) (sym (c .before .starts-above .ensures) ∙ c .if1 .taken)) ∙ l .inv .3,
+      sym (group-below (a .listing) (now (a .c)) (now (a .name)) (l .inv .0) (l .lo) (l .more) (t .loop-test .taken) (l .inv .1)
+          (sym (c .before .before .stands-to .ensures) ∙ ap isLess (c .enum-told .given .1))) ∙ l .inv .3,
     )
+
+enum-told-2 : tie.Need-enum-told-2 Inv-loop μ-loop
+enum-told-2 c = search needs
 
 add-lo : tie.Need-add-lo Inv-loop μ-loop
 add-lo c = omega arith
@@ -56,13 +64,38 @@ loop-less-2 c = omega arith
 
 loop-again-2 : tie.Need-loop-again-2 Inv-loop μ-loop
 loop-again-2 c =
-    let t = c .before .before in
+    let t = c .before .before .before in
     let l = t .before .loop in
     let a = t .before .before .before .before .args in (
       l .inv .0 - 1,
       omega arith,
       omega arith,
-      sym (group-from (a .listing) (now (a .c)) (now (a .name)) (l .inv .0) (l .lo) (l .more) (t .loop-test .taken) (l .inv .1) (sym (c .before .starts-above .ensures) ∙ c .if1 .left)) ∙ l .inv .3,
+      sym (group-from (a .listing) (now (a .c)) (now (a .name)) (l .inv .0) (l .lo) (l .more) (t .loop-test .taken) (l .inv .1)
+          (sym (c .before .before .stands-to .ensures) ∙ ap isLess (c .enum-told2 .given .1))) ∙ l .inv .3,
+    )
+
+enum-told-3 : tie.Need-enum-told-3 Inv-loop μ-loop
+enum-told-3 c = search needs
+
+add-lo-2 : tie.Need-add-lo-2 Inv-loop μ-loop
+add-lo-2 c = omega arith
+
+sub-more-3 : tie.Need-sub-more-3 Inv-loop μ-loop
+sub-more-3 c = omega arith
+
+loop-less-3 : tie.Need-loop-less-3 Inv-loop μ-loop
+loop-less-3 c = omega arith
+
+loop-again-3 : tie.Need-loop-again-3 Inv-loop μ-loop
+loop-again-3 c =
+    let t = c .before .before .before in
+    let l = t .before .loop in
+    let a = t .before .before .before .before .args in (
+      l .inv .0 - 1,
+      omega arith,
+      omega arith,
+      sym (group-from (a .listing) (now (a .c)) (now (a .name)) (l .inv .0) (l .lo) (l .more) (t .loop-test .taken) (l .inv .1)
+          (sym (c .before .before .stands-to .ensures) ∙ ap isLess (c .enum-told3 .given .1))) ∙ l .inv .3,
     )
 
 returns : tie.Need-returns Inv-loop μ-loop
@@ -79,13 +112,20 @@ group-of-spec =
     μ-loop
     loop-holds
     add-half
-    add-starts-above
-    starts-above-requires
+    add-stands-to
+    stands-to-requires
+    enum-told
     sub-more
     loop-less
     loop-again
+    enum-told-2
     add-lo
     sub-more-2
     loop-less-2
     loop-again-2
+    enum-told-3
+    add-lo-2
+    sub-more-3
+    loop-less-3
+    loop-again-3
     returns)

@@ -1,12 +1,10 @@
 use borrow.Author.Needs.{needs}
 use borrow.Author.Tests.{lt-ltb, le-ltb}
-use mathlib.Core.Path.{_≡_, sym, ap, _∙_}
-use Prim.Native.Nat.{_%_, _/_, _<_}
 use native.Mathlib.Omega.{arith}
 use denote.Ref.{now}
-use Rattle.chunk.specs.Chunk.{countOf, spacingOf}
 use Rattle.chunk.proofs.Quick.{capped}
-use Rattle.seek.specs.Seek.{nthIn, afterAt, groupAt}
+use Rattle.seek.specs.Seek.{nthIn}
+use Rattle.seek.proofs.Steps.{counted}
 use Rattle.seek.proofs.nth_entry.Statement.{statement}
 use Rattle.seek.proofs.nth_entry.Tie as tie
 
@@ -32,7 +30,9 @@ div-group-at : tie.Need-div-group-at
 div-group-at c = search needs
 
 group-at-requires : tie.Need-group-at-requires
-group-at-requires c κs = search needs
+group-at-requires c κs =
+    let t = c .before in
+    counted (now (t .before .before .before .args .c)) (omega (arith, t .before .le16 .ensures, t .if1 .left))
 
 entry-behind-requires : tie.Need-entry-behind-requires
 entry-behind-requires c κs = search needs

@@ -2,54 +2,62 @@
 
 use crate::run::{command, fed, hods, sample, Folder, Ran};
 
+/// By the index and along the chain.
 #[test]
 fn found_and_absent() {
-    let run = hods(&["find", "several.chm", "/Zones.htm", "/ZONES.HTM", "/"]);
+    for option in [&[][..], &["--chain"]] {
+        let names = ["several.chm", "/Zones.htm", "/ZONES.HTM", "/"];
+        let run = hods(&[&["find"], option, &names[..]].concat());
+        let want = "/Zones.htm: found, section 0, offset 26, length 10\n\
+            /ZONES.HTM: found as /Zones.htm, section 0, offset 26, length 10\n\
+            /: found, section 0, offset 0, length 0\n";
+        assert_eq!(run.good(), want);
+
+        let names = [
+            &["find", "several.chm", "/nope"],
+            option,
+            &["/#TOPICS", "!"],
+        ];
+        let run = hods(&names.concat());
+        let want = "/nope: absent\n\
+            /#TOPICS: found, section 0, offset 8, length 8\n\
+            !: absent\n";
+        assert_eq!((run.status, run.out(), &run.err[..]), (1, want, ""));
+
+        let args = [&["find"], option, &["-", "--", "/a.htm"]].concat();
+        let run = fed(command(&args), &sample("sample.chm"));
+        assert!(run.good().ends_with("length 5\n"));
+    }
+    let run = hods(&["find", "sample.chm", "--", "--chain", "--trail"]);
+    let want = "--chain: absent\n--trail: absent\n";
+    assert_eq!((run.status, run.out()), (1, want));
+}
+
+#[test]
+fn with_the_trail() {
+    let names = ["several.chm", "/Zones.htm", "/ZONES.HTM", "/"];
+    let run = hods(&[&["find", "--trail"], &names[..]].concat());
     let want = "/Zones.htm: found, section 0, offset 26, length 10; chunks 6 1 3\n\
         /ZONES.HTM: found as /Zones.htm, section 0, offset 26, length 10; chunks 6 1 3\n\
         /: found, section 0, offset 0, length 0; chunks 6 5 7\n";
     assert_eq!(run.good(), want);
 
-    let run = hods(&["find", "several.chm", "/nope", "/#TOPICS", "!"]);
+    let run = hods(&["find", "several.chm", "/nope", "--trail", "/#TOPICS", "!"]);
     let want = "/nope: absent; chunks 6 1 3\n\
         /#TOPICS: found, section 0, offset 8, length 8; chunks 6 5 7\n\
         !: absent; chunk 6\n";
     assert_eq!((run.status, run.out(), &run.err[..]), (1, want, ""));
 
     let run = fed(
-        command(&["find", "-", "--", "/a.htm"]),
+        command(&["find", "--trail", "-", "/a.htm"]),
         &sample("sample.chm"),
     );
     assert!(run.good().ends_with("length 5; chunk 0\n"));
 }
 
+/// All ways say the same of every name of the book, and of one behind each.
 #[test]
-fn along_the_chain() {
-    let names = ["several.chm", "/Zones.htm", "/ZONES.HTM", "/"];
-    let run = hods(&[&["find", "--chain"], &names[..]].concat());
-    let want = "/Zones.htm: found, section 0, offset 26, length 10\n\
-        /ZONES.HTM: found as /Zones.htm, section 0, offset 26, length 10\n\
-        /: found, section 0, offset 0, length 0\n";
-    assert_eq!(run.good(), want);
-
-    let run = hods(&["find", "several.chm", "/nope", "--chain", "/#TOPICS", "!"]);
-    let want = "/nope: absent\n\
-        /#TOPICS: found, section 0, offset 8, length 8\n\
-        !: absent\n";
-    assert_eq!((run.status, run.out(), &run.err[..]), (1, want, ""));
-
-    let run = fed(
-        command(&["find", "--chain", "-", "/a.htm"]),
-        &sample("sample.chm"),
-    );
-    assert!(run.good().ends_with("length 5\n"));
-    let run = hods(&["find", "sample.chm", "--", "--chain"]);
-    assert_eq!((run.status, run.out()), (1, "--chain: absent; chunk 0\n"));
-}
-
-/// Both ways say the same of every name of the book, and of one behind each.
-#[test]
-fn both_ways_agree() {
+fn all_ways_agree() {
     let listed = hods(&["list", "several.chm"]);
     let names = listed.good().lines();
     let names = names.filter_map(|line| line.split_whitespace().nth(3));
@@ -61,12 +69,15 @@ fn both_ways_agree() {
         let mut command = command(&[&["find"], options, &["several.chm"]].concat());
         Ran::of(command.args(&asked).output().unwrap())
     };
-    let (index, chain) = (found(&[]), found(&["--chain"]));
-    assert_eq!((index.status, chain.status), (1, 1));
-    let without_chunks = |line: &str| line.split("; chunk").next().map(str::to_string);
-    let index: Vec<String> = index.out().lines().filter_map(without_chunks).collect();
-    assert_eq!(index, chain.out().lines().collect::<Vec<_>>());
-    assert_eq!(chain.out().matches(": absent\n").count(), 233);
+    let [index, trail, chain] = [&[][..], &["--trail"], &["--chain"]].map(found);
+    assert_eq!([index.status, trail.status, chain.status], [1; 3]);
+    assert_eq!(index.out(), chain.out());
+    assert_eq!(index.out().matches(": absent\n").count(), 233);
+    for (told, line) in trail.out().lines().zip(index.out().lines()) {
+        let chunks = told.strip_prefix(line).unwrap();
+        assert!(chunks.starts_with("; chunks 6 "), "{told}");
+    }
+    assert_eq!(trail.out().lines().count(), 466);
 }
 
 /// A wrong name in the root, a wrong child, a tree that is too low: the chain has all names all the same.
@@ -85,9 +96,10 @@ fn a_broken_index() {
         assert_ne!(book[place], byte);
         book[place] = byte;
         folder.put("book", &book);
-        folder
-            .hods(&["find", "book", "/"])
-            .bad(1, &["hods: book: refusal 14"]);
+        for option in ["--", "--trail"] {
+            let run = folder.hods(&["find", option, "book", "/"]);
+            run.bad(1, &["hods: book: refusal 14"]);
+        }
 
         let run = folder.hods(&[&["find", "--chain", "book", "/nope"], &names[..]].concat());
         assert_eq!(run.status, 1);
@@ -122,12 +134,14 @@ fn names_that_cannot_be() {
         "hods: several.chm: refusal 15 (FORMAT R15): the asked name has 0 bytes, not 1 to 1024\n",
         "has 1025 bytes",
     ]);
-    let run = hods(&["find", "--chain", "several.chm", "", "/", &long]);
-    assert_eq!((run.status, run.out().lines().count()), (1, 1));
-    run.says(&["refusal 15 (FORMAT R15)", "has 0 bytes", "has 1025 bytes"]);
+    for option in ["--chain", "--trail"] {
+        let run = hods(&["find", option, "several.chm", "", "/", &long]);
+        assert_eq!((run.status, run.out().lines().count()), (1, 1));
+        run.says(&["refusal 15 (FORMAT R15)", "has 0 bytes", "has 1025 bytes"]);
+    }
     let run = hods(&["find", "several.chm", &long[1..], "\n-"]);
     assert_eq!((run.status, &run.err[..]), (1, ""));
-    assert!(run.out().ends_with("\n\\x0a-: absent; chunk 6\n"));
+    assert!(run.out().ends_with("\n\\x0a-: absent\n"));
 }
 
 #[test]
@@ -141,5 +155,5 @@ fn no_book() {
     hods(&["find", "--chain", "sample.chm"]).bad(2, &["hods --help"]);
     hods(&["find", "--chain=x", "sample.chm", "/"]).bad(2, &["--chain takes no value"]);
     let run = hods(&["find", "sample.chm", "--", "-x"]);
-    assert_eq!((run.status, run.out()), (1, "-x: absent; chunk 0\n"));
+    assert_eq!((run.status, run.out()), (1, "-x: absent\n"));
 }

@@ -4,6 +4,7 @@ mod cat;
 mod check;
 mod find;
 mod list;
+mod names;
 mod pipe;
 mod run;
 mod usage;

@@ -42,10 +42,12 @@ fn a_closed_pipe_is_no_trouble() {
 /// Answers that the status gives are given all the same.
 #[test]
 fn a_closed_pipe_hides_no_answer() {
-    for option in ["--", "--chain"] {
+    for option in ["--", "--chain", "--trail"] {
         let run = unread(command(&["find", option, "sample.chm", "/a.htm", "/b"]));
         assert_eq!((run.status, &run.err[..]), (1, ""));
     }
+    let run = unread(command(&["find", "sample.chm", "/b", "--names", "-"]));
+    assert_eq!((run.status, &run.err[..]), (1, ""));
     let run = unread(command(&["check", "sample.chm", "chunk.bin"]));
     assert_eq!(run.status, 1);
     run.says(&["R2"]);
@@ -59,6 +61,7 @@ fn a_full_device_is() {
     for args in [
         &["list", "several.chm"][..],
         &["cat", "sample.chm", "/a.htm"],
+        &["find", "sample.chm", "/", "--names", "/dev/null"],
     ] {
         let full = OpenOptions::new().write(true).open("/dev/full").unwrap();
         let run = Ran::of(command(args).stdout(full).output().unwrap());

@@ -67,6 +67,13 @@ fn wrong_usage() {
         &["check", "--quiet=1", "sample.chm"],
         &["cat", "--chain", "sample.chm", "/"],
         &["find", "--chains", "sample.chm", "/"],
+        &["find", "--chain", "--trail", "sample.chm", "/"],
+        &["find", "--trail=1", "sample.chm", "/"],
+        &["find", "sample.chm", "--names"],
+        &["find", "--names", "sample.chm"],
+        &["find", "-", "--names", "-"],
+        &["find", "-", "/", "--names=-"],
+        &["cat", "--names", "-", "sample.chm", "/"],
     ] {
         hods(args).bad(2, &["hods --help"]);
     }

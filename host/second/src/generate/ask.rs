@@ -1,10 +1,15 @@
-//! Lookups, scans, steps and parts: of good books, of broken ones, with made-up records and cursors.
+//! Lookups, scans, batches, steps and parts: of good books, of broken ones, with made-up records and
+//! cursors.
 
+mod batch;
 mod lookup;
+mod opened;
 mod scan;
 mod step;
 
+pub use batch::{batch_case, break_names, joined};
 pub use lookup::{lookup_case, unaskable};
+pub use opened::opened_case;
 pub use scan::scan_case;
 pub use step::step_case;
 
@@ -26,8 +31,15 @@ const FAR: [u64; 4] = [TOP_32, BIT_32, BIT_63, TOP];
 const PART: &str = "part";
 
 pub fn labels() -> Vec<&'static str> {
-    let (lookups, steps) = (labels_of(lookup::LOOKUPS), labels_of(step::STEPS));
-    [lookups, scan::labels(), steps, vec![PART]].concat()
+    let groups = [
+        labels_of(lookup::LOOKUPS),
+        scan::labels(),
+        labels_of(opened::KINDS),
+        batch::labels(),
+        labels_of(step::STEPS),
+        vec![PART],
+    ];
+    groups.concat()
 }
 
 /// A record that is refused whatever else is asked (FORMAT K12).

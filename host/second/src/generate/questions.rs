@@ -1,5 +1,7 @@
 //! More questions about the bytes of a case. They aim at nothing; what came of them is counted.
 
+mod batch;
+
 use super::ask::{bad_record, made_up_record, part_call, unaskable};
 use super::names::{any_name, near_miss, other_case};
 use super::{Call, Case, Input, Random};
@@ -10,9 +12,16 @@ use crate::{chunk_entries, part, start, step, Cursor, Record, Step, NONE};
 pub fn questions(random: &mut Random, case: &Case) -> Vec<Call> {
     match &case.call {
         Call::Write(input) => outputs(random, input),
-        Call::Open | Call::Part { .. } => about(random, &case.file, None),
-        Call::Lookup { record, .. }
-        | Call::Scan { record, .. }
+        Call::Open | Call::Part { .. } | Call::Batch { .. } => about(random, &case.file, None),
+        Call::Lookup { record, name, .. } | Call::Scan { record, name } => {
+            let opened = Call::Opened {
+                record: *record,
+                name: name.clone(),
+            };
+            let more = about(random, &case.file, Some(*record));
+            [vec![opened], more].concat()
+        }
+        Call::Opened { record, .. }
         | Call::Start { record }
         | Call::Step { record, .. }
         | Call::Page { record, .. } => about(random, &case.file, Some(*record)),
@@ -47,6 +56,12 @@ pub fn about(random: &mut Random, file: &[u8], given: Option<Record>) -> Vec<Cal
     calls.extend(book.walk(random));
     if random.once_in(16) {
         calls.extend(book.every_name(random));
+    }
+    if random.once_in(64) {
+        calls.extend(book.every_cut(random, &names));
+    }
+    for _ in 0..2 {
+        calls.push(book.batch(random, &names));
     }
     for _ in 0..6 {
         calls.extend(book.searches(random, &names));
@@ -105,9 +120,30 @@ fn shapeless(random: &mut Random) -> Record {
     }
 }
 
-/// A lookup and a scan.
-fn searches(record: Record, name: Vec<u8>, places: usize) -> [Call; 2] {
+/// One of these names, one like it, or any.
+fn some_name(random: &mut Random, names: &[Vec<u8>]) -> Vec<u8> {
+    match random.below(10) {
+        0 => unaskable(random),
+        1 => any_name(random),
+        _ if names.is_empty() => any_name(random),
+        choice => {
+            let name = &names[random.index(names.len())];
+            match choice {
+                2 | 3 => other_case(random, name).unwrap_or(name.clone()),
+                4..=6 => near_miss(random, name),
+                _ => name.clone(),
+            }
+        }
+    }
+}
+
+/// A lookup, a scan and a lookup in an opened book.
+fn searches(record: Record, name: Vec<u8>, places: usize) -> [Call; 3] {
     let scan = Call::Scan {
+        record,
+        name: name.clone(),
+    };
+    let opened = Call::Opened {
         record,
         name: name.clone(),
     };
@@ -116,7 +152,7 @@ fn searches(record: Record, name: Vec<u8>, places: usize) -> [Call; 2] {
         name,
         places,
     };
-    [lookup, scan]
+    [lookup, scan, opened]
 }
 
 /// Bytes, and the record that they are asked with for the most part.
@@ -167,21 +203,9 @@ impl Bytes<'_> {
         names
     }
 
-    /// A lookup, and a scan for the same name with the same record.
-    fn searches(&self, random: &mut Random, names: &[Vec<u8>]) -> [Call; 2] {
-        let name = match random.below(10) {
-            0 => unaskable(random),
-            1 => any_name(random),
-            _ if names.is_empty() => any_name(random),
-            choice => {
-                let name = &names[random.index(names.len())];
-                match choice {
-                    2 | 3 => other_case(random, name).unwrap_or(name.clone()),
-                    4..=6 => near_miss(random, name),
-                    _ => name.clone(),
-                }
-            }
-        };
+    /// A lookup, and the other two searches for the same name with the same record.
+    fn searches(&self, random: &mut Random, names: &[Vec<u8>]) -> [Call; 3] {
+        let name = some_name(random, names);
         let record = self.some_record(random);
         let places = match random.below(4) {
             0 => random.index(8),

@@ -39,7 +39,7 @@ pub fn unaskable(random: &mut Random) -> Vec<u8> {
 }
 
 /// Where a descent starts.
-fn top(book: &Book) -> u32 {
+pub(super) fn top(book: &Book) -> u32 {
     match book.depth {
         1 => book.first,
         _ => book.root,

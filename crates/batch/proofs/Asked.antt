@@ -1,0 +1,97 @@
+-- The names, one behind another: what stands at a place, and how many there are.
+-- Assumes nothing.
+use mathlib.Core.Path.{_≡_, refl, ap, _∙_}
+use mathlib.Core.Bool.{Bool, true, false, cond}
+use mathlib.Core.List.{List}
+use Prim.Native.Nat.{ℕ, zero, suc, _+_, _-_, _≤_, _<_}
+use native.Mathlib.Omega.{arith}
+use lib.ListN.{length}
+use borrow.Author.Tests.{leb-true, lt-ltb, le-ltb}
+use Rattle.fields.specs.Part.{inside, part}
+use Rattle.encint.specs.Encint.{encintAt}
+use Rattle.encint.specs.declared.Number.{Number}
+use Rattle.encint.specs.declared.Number.the-variants.{Value, Bad}
+use Rattle.encint.proofs.Reading.{encint-next, bad-no-value}
+use Rattle.entries.specs.Entry.{withNumber}
+use Rattle.batch.specs.Batch.{Names, noMore, cut, push, askedAt, namesFrom, namesIn}
+use Rattle.batch.specs.Step.{countedAs}
+use Rattle.batch.specs.declared.Counted.{Counted}
+use Rattle.batch.specs.declared.Counted.the-variants.{All, Cut}
+
+-- a name that is there lies inside, behind its place
+pub asked-inside : (s : List ℕ) (at n p : ℕ) → askedAt s at ≡ Value n p → (at < p) × (p + n ≤ length s)
+unfolding askedAt
+asked-inside s at n p e = go (encintAt s at) refl e
+  where
+    tested : (m q : ℕ) → at < q → (t : Bool) → inside s q m ≡ t → cond t (Value m q) Bad ≡ Value n p → (at < p) × (p + n ≤ length s)
+    tested m q l true h d =
+        let x : m ≡ n = cc in
+        let y : q ≡ p = cc in
+        omega (arith, leb-true (q + m) (length s) h)
+    tested m q l false h d = bad-no-value d
+
+    go : (r : Number) → encintAt s at ≡ r → withNumber r Bad (λ m q. cond (inside s q m) (Value m q) Bad) ≡ Value n p → (at < p) × (p + n ≤ length s)
+    go Bad q d = bad-no-value d
+    go (Value m x) q d = tested m x (encint-next s at q .0) (inside s x m) refl d
+
+-- ---- the names from a place on, f of them at most
+
+module _ (s : List ℕ) where
+  pub names-end : (f at : ℕ) → length s ≤ at → namesFrom s f at ≡ noMore
+  unfolding namesFrom
+  names-end zero at h = rw (le-ltb at (length s) h) refl
+  names-end (suc f) at h = rw (le-ltb at (length s) h) refl
+
+  pub names-cut : (f at : ℕ) → at < length s → askedAt s at ≡ Bad → namesFrom s f at ≡ cut
+  unfolding namesFrom
+  names-cut zero at h g = rw (lt-ltb at (length s) h) refl
+  names-cut (suc f) at h g = rw (lt-ltb at (length s) h, g) refl
+
+  pub names-more : (f at n p : ℕ) → at < length s → length s ≤ at + f → askedAt s at ≡ Value n p
+      → namesFrom s f at ≡ push (part s p n) (namesFrom s (f - 1) (p + n))
+  unfolding namesFrom
+  names-more f at n p h l g =
+      let z : f ≡ suc (f - 1) = omega arith in
+      ap (λ (k : ℕ). namesFrom s k at) z ∙ rw (lt-ltb at (length s) h, g) refl
+
+-- ---- their count
+
+counted-push : (n : ℕ) (x : List ℕ) (ns : Names) → countedAs n (push x ns) ≡ countedAs (n + 1) ns
+counted-push n x ns = ap (λ (k : ℕ). cond (ns .whole) (All k) Cut) (let z : n + suc (length (ns .list)) ≡ n + 1 + length (ns .list) = omega arith in z)
+
+-- n names were counted, and the rest stands from a place on
+pub record Counting (s : List ℕ) (n at : ℕ) : Type 0 where
+  pub most : ℕ
+  pub low : at ≤ length s
+  pub enough : length s ≤ at + most
+  pub few : n ≤ at
+  pub whole : countedAs n (namesFrom s most at) ≡ countedAs 0 (namesIn s)
+
+pub counting-start : (s : List ℕ) → Counting s 0 0
+counting-start s = record { most = length s; low = omega arith; enough = omega arith; few = omega arith; whole = refl }
+
+module _ (s : List ℕ) (n at : ℕ) (c : Counting s n at) where
+  pub counting-end : length s ≤ at → All n ≡ countedAs 0 (namesIn s)
+  counting-end h =
+      let z : n ≡ n + 0 = omega arith in
+      let e : countedAs n (namesFrom s (c .most) at) ≡ countedAs n noMore = ap (countedAs n) (names-end s (c .most) at h) in
+      ap All z ∙ (rw e at (c .whole))
+
+  pub counting-cut : at < length s → askedAt s at ≡ Bad → Cut ≡ countedAs 0 (namesIn s)
+  counting-cut h g =
+      let e : countedAs n (namesFrom s (c .most) at) ≡ countedAs n cut = ap (countedAs n) (names-cut s (c .most) at h g) in
+      rw e at (c .whole)
+
+  pub counting-more : (k p : ℕ) → at < length s → askedAt s at ≡ Value k p → Counting s (n + 1) (p + k)
+  counting-more k p h g =
+      let i = asked-inside s at k p g in
+      let m = c .enough in
+      let f = c .few in
+      let e = ap (countedAs n) (names-more s (c .most) at k p h (c .enough) g) ∙ counted-push n (part s p k) (namesFrom s (c .most - 1) (p + k)) in
+      record {
+        most = c .most - 1;
+        low = i .1;
+        enough = omega arith;
+        few = omega arith;
+        whole = rw e at (c .whole);
+      }

@@ -1,0 +1,4 @@
+pub mod Asked
+pub mod Results
+pub mod Called
+pub mod Theorems

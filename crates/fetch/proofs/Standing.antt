@@ -1,0 +1,73 @@
+-- On any bytes: what the descent without checks finds stands where it is reported to (`fetched-stands`), and it refuses a name or a record that cannot be
+-- asked, and nothing else (`fetch-refusal`).
+-- Assumes nothing.
+use mathlib.Core.Path.{_≡_, refl, sym}
+use mathlib.Core.Logic.{_⊎_, inl, inr}
+use mathlib.Core.Bool.{Bool, true, false, cond}
+use mathlib.Core.List.{List}
+use Prim.Native.Nat.{ℕ, zero, suc}
+use native.Mathlib.Omega.{arith}
+use Rattle.names.specs.Names.{askable}
+use Rattle.seek.specs.Seek.{Sought, soughtOf, findIn, chooseIn}
+use Rattle.seek.specs.declared.Hit.{Hit}
+use Rattle.seek.specs.declared.Hit.the-variants.{At, Nothing}
+use Rattle.header.specs.declared.Record.{Record}
+use Rattle.tree.specs.Tree.{top}
+use Rattle.tree.specs.Descent.{Outcome, found, absent, refused, answer, onward}
+use Rattle.tree.specs.Fetch.{fetchFrom}
+use Rattle.book.specs.Book.{limitsOf, chunkBytes, shapeOf, bookFits, refusalOf, reportOf}
+use Rattle.book.specs.Search.{Stands}
+use Rattle.book.specs.declared.Refusal.{Refusal}
+use Rattle.book.proofs.Searching.{found-report, found-stands}
+use Rattle.lookup.specs.Reply.{replyTo, repliedTo}
+use Rattle.lookup.specs.declared.Reply.the-variants.{Found, Refused}
+use Rattle.fetch.specs.Fetch.{fetchAt, fetched, FoundStands}
+
+module _ (s : List ℕ) (book : Record) (name : List ℕ) where
+  -- what an outcome reports
+  abbrev Worth : Outcome → Type 0
+  Worth (found c e) = Stands s name (reportOf book c e)
+  Worth absent = Unit {0}
+  Worth refused = ⊥
+
+  hit-stands : (c : ℕ) (x : Hit) → findIn (limitsOf s book) (chunkBytes s book c) name ≡ x → Worth (answer c (soughtOf (chunkBytes s book c) x))
+  hit-stands c Nothing q = tt
+  hit-stands c (At e) q = rw (← found-report s book name c e q) (found-stands s book name c e q)
+
+  fetch-stands : (l c : ℕ) → Worth (fetchAt s book name l c)
+  unfolding fetchFrom
+  fetch-stands zero c = tt
+  fetch-stands (suc zero) c = hit-stands c (findIn (limitsOf s book) (chunkBytes s book c) name) refl
+  fetch-stands (suc (suc l)) c = go (soughtOf (chunkBytes s book c) (chooseIn (limitsOf s book) (chunkBytes s book c) name)) (λ k. fetch-stands (suc l) k)
+    where
+      go : (x : Sought) → ((k : ℕ) → Worth (fetchAt s book name (suc l) k)) → Worth (onward x absent (λ k. fetchAt s book name (suc l) k))
+      go Sought.absent f = tt
+      go (Sought.found e) f = f (e .child)
+
+  -- ---- what is replied
+
+  pub fetched-stands : FoundStands s name (fetched s book name)
+  unfolding fetched repliedTo
+  fetched-stands x = go (askable name) (bookFits s book) (fetchAt s book name (book .depth) (top (shapeOf book))) (fetch-stands (book .depth) (top (shapeOf book)))
+    where
+      go : (a b : Bool) (o : Outcome) → Worth o → cond a (cond b (replyTo book o) (Refused (refusalOf 17))) (Refused (refusalOf 15)) ≡ Found x → Stands s name x
+      go true true (found c e) w q = let z : reportOf book c e ≡ x = cc in rw (← z) w
+      go true true absent w q = absurd (let z : _≡_ {A = ℕ} 0 1 = cc in omega arith)
+      go true true refused w q = absurd w
+      go true false o w q = absurd (let z : _≡_ {A = ℕ} 0 1 = cc in omega arith)
+      go false b o w q = absurd (let z : _≡_ {A = ℕ} 0 1 = cc in omega arith)
+
+  pub fetch-refusal : (x : Refusal) → fetched s book name ≡ Refused x
+      → ((x ≡ refusalOf 15) × (askable name ≡ false)) ⊎ ((x ≡ refusalOf 17) × (bookFits s book ≡ false))
+  unfolding fetched repliedTo
+  fetch-refusal x =
+      go (askable name) refl (bookFits s book) refl (fetchAt s book name (book .depth) (top (shapeOf book))) (fetch-stands (book .depth) (top (shapeOf book)))
+    where
+      go : (a : Bool) → askable name ≡ a → (b : Bool) → bookFits s book ≡ b → (o : Outcome) → Worth o
+          → cond a (cond b (replyTo book o) (Refused (refusalOf 17))) (Refused (refusalOf 15)) ≡ Refused x
+          → ((x ≡ refusalOf 15) × (askable name ≡ false)) ⊎ ((x ≡ refusalOf 17) × (bookFits s book ≡ false))
+      go true p true r (found c e) w q = absurd (let z : _≡_ {A = ℕ} 0 1 = cc in omega arith)
+      go true p true r absent w q = absurd (let z : _≡_ {A = ℕ} 0 1 = cc in omega arith)
+      go true p true r refused w q = absurd w
+      go true p false r o w q = let z : refusalOf 17 ≡ x = cc in inr (sym z, r)
+      go false p b r o w q = let z : refusalOf 15 ≡ x = cc in inl (sym z, p)

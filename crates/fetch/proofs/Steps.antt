@@ -1,0 +1,64 @@
+-- What one turn of the descent makes of it.
+-- Assumes nothing.
+use mathlib.Core.Path.{_≡_, refl, sym, ap, _∙_}
+use mathlib.Core.List.{List}
+use Prim.Native.Nat.{ℕ, suc, _-_, _<_}
+use native.Mathlib.Omega.{arith}
+use Rattle.seek.specs.Seek.{soughtOf, findIn, chooseIn}
+use Rattle.seek.specs.declared.Child.the-variants.{Below, Nowhere}
+use Rattle.seek.specs.declared.Hit.{Hit}
+use Rattle.seek.specs.declared.Hit.the-variants.{At, Nothing}
+use Rattle.header.specs.declared.Record.{Record}
+use Rattle.tree.specs.Descent.{absent, answer}
+use Rattle.tree.specs.Fetch.{fetchFrom}
+use Rattle.tree.proofs.Steps.{leads-down, leads-nowhere}
+use Rattle.book.specs.Book.{limitsOf, chunkBytes, reportAt}
+use Rattle.book.specs.Search.{findingOf, findingIn, childIn}
+use Rattle.book.specs.declared.Finding.{Finding}
+use Rattle.book.specs.declared.Report.{Report}
+use Rattle.book.proofs.Searching.{found-report}
+use Rattle.lookup.specs.Reply.{replyTo}
+use Rattle.lookup.specs.declared.Reply.{Reply}
+use Rattle.lookup.specs.declared.Reply.the-variants.{Found, Absent}
+use Rattle.fetch.specs.Fetch.{fetchAt}
+
+module _ (s : List ℕ) (book : Record) (name : List ℕ) where
+  -- ---- the listing chunk
+
+  pub leaf-found : (c : ℕ) (x : Report) → findingIn s book name c ≡ Finding.Found x → Found x ≡ replyTo book (fetchAt s book name 1 c)
+  unfolding findingIn fetchFrom
+  leaf-found c x = go (findIn (limitsOf s book) (chunkBytes s book c) name) refl
+    where
+      go : (y : Hit) → findIn (limitsOf s book) (chunkBytes s book c) name ≡ y → findingOf s book c y ≡ Finding.Found x
+          → Found x ≡ replyTo book (answer c (soughtOf (chunkBytes s book c) (findIn (limitsOf s book) (chunkBytes s book c) name)))
+      go Nothing q r = absurd (let z : _≡_ {A = ℕ} 0 1 = cc in omega arith)
+      go (At e) q r = let z : reportAt s book c e ≡ x = cc in rw q (ap (λ y. Found y) (sym z ∙ found-report s book name c e q))
+
+  pub leaf-absent : (c : ℕ) → findingIn s book name c ≡ Finding.Nothing → Absent ≡ replyTo book (fetchAt s book name 1 c)
+  unfolding findingIn fetchFrom
+  leaf-absent c = go (findIn (limitsOf s book) (chunkBytes s book c) name)
+    where
+      go : (y : Hit) → findingOf s book c y ≡ Finding.Nothing → Absent ≡ replyTo book (answer c (soughtOf (chunkBytes s book c) y))
+      go Nothing r = refl
+      go (At e) r = absurd (let z : _≡_ {A = ℕ} 0 1 = cc in omega arith)
+
+  -- ---- an index chunk
+
+  levels : (left : ℕ) → 1 < left → (f : ℕ → Reply) → f left ≡ f (suc (suc (left - 2)))
+  levels left h f = ap f (omega arith)
+
+  module _ (left c : ℕ) (h : 1 < left) where
+    pub go-down : (k : ℕ) → childIn s book name c ≡ Below k
+        → replyTo book (fetchAt s book name left c) ≡ replyTo book (fetchAt s book name (left - 1) k)
+    unfolding fetchFrom childIn
+    go-down k q =
+        let z : suc (left - 2) ≡ left - 1 = omega arith in
+        levels left h (λ n. replyTo book (fetchAt s book name n c))
+        ∙ ap (replyTo book) (leads-down (chunkBytes s book c) (chooseIn (limitsOf s book) (chunkBytes s book c) name) absent (λ n. fetchAt s book name (suc (left - 2)) n) k q)
+        ∙ ap (λ (n : ℕ). replyTo book (fetchAt s book name n k)) z
+
+    pub go-nowhere : childIn s book name c ≡ Nowhere → replyTo book (fetchAt s book name left c) ≡ Absent
+    unfolding fetchFrom childIn
+    go-nowhere q =
+        levels left h (λ n. replyTo book (fetchAt s book name n c))
+        ∙ ap (replyTo book) (leads-nowhere (chunkBytes s book c) (chooseIn (limitsOf s book) (chunkBytes s book c) name) absent (λ n. fetchAt s book name (suc (left - 2)) n) q)

@@ -1,0 +1,27 @@
+use borrow.Author.Needs.{needs}
+use Rattle.hodsplinter.proofs.tell.Statement.{statement}
+use Rattle.hodsplinter.proofs.tell.Tie as tie
+
+enum-known-reply : tie.Need-enum-known-reply
+enum-known-reply c = search needs
+
+enum-told : tie.Need-enum-told
+enum-told c = search needs
+
+enum-known-reply-2 : tie.Need-enum-known-reply-2
+enum-known-reply-2 c = search needs
+
+code-requires : tie.Need-code-requires
+code-requires c κs = search needs
+
+returns : tie.Need-returns
+returns c = let z = c .before .before .reply .given .1 in (rw z, rw z)
+
+returns-2 : tie.Need-returns-2
+returns-2 c = let z = c .enum-told .given .1 in (rw z, rw z)
+
+returns-3 : tie.Need-returns-3
+returns-3 c = let z = c .before .before .reply2 .given .1 in (rw z (c .code .ensures), rw z)
+
+pub tell-spec : {M : Type 1} → statement M
+tell-spec = tie.close (tie.spec enum-known-reply enum-told enum-known-reply-2 code-requires returns returns-2 returns-3)
