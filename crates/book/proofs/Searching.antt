@@ -58,6 +58,25 @@ module _ (s : List ℕ) (book : Record) (name : List ℕ) (c : ℕ) where
         ∙ part-within s (chunkPlace book c) 4096 (e .start) (e .len) (omega arith) in
         rw (le-leb (chunkPlace book c + e .start) (length s) (omega arith)) (omega arith, ap isEqual (sym (ap (compared name) z) ∙ r .1 .1))
 
+  -- what a finding tells: the entry that the search over the bytes found, or that it found none
+  pub finding-found : (x : Report) → findingIn s book name c ≡ Finding.Found x
+      → (e : Place) × ((findIn (limitsOf s book) (chunkBytes s book c) name ≡ At e) × (x ≡ reportOf book c (entryOf (chunkBytes s book c) e)))
+  unfolding findingIn
+  finding-found x = go (findIn (limitsOf s book) (chunkBytes s book c) name) refl
+    where
+      go : (y : Hit) → findIn (limitsOf s book) (chunkBytes s book c) name ≡ y → findingOf s book c y ≡ Finding.Found x
+          → (e : Place) × ((findIn (limitsOf s book) (chunkBytes s book c) name ≡ At e) × (x ≡ reportOf book c (entryOf (chunkBytes s book c) e)))
+      go Nothing q r = absurd (let z : _≡_ {A = ℕ} 0 1 = cc in omega arith)
+      go (At e) q r = let z : reportAt s book c e ≡ x = cc in (e, (q, sym z ∙ found-report e q))
+
+  pub finding-nothing : findingIn s book name c ≡ Finding.Nothing → findIn (limitsOf s book) (chunkBytes s book c) name ≡ Nothing
+  unfolding findingIn
+  finding-nothing = go (findIn (limitsOf s book) (chunkBytes s book c) name)
+    where
+      go : (y : Hit) → findingOf s book c y ≡ Finding.Nothing → y ≡ Nothing
+      go Nothing r = refl
+      go (At e) r = absurd (let z : _≡_ {A = ℕ} 0 1 = cc in omega arith)
+
   -- ---- an index chunk
 
   pub chosen-in : indexChunk (directoryOf s book) (shapeOf book) c ≡ true
@@ -76,26 +95,12 @@ module _ (s : List ℕ) (book : Record) (name : List ℕ) (c : ℕ) where
         ∙ ap (soughtOf (chunkBytes s book c)) q
 
     pub search-found : (x : Report) → findingIn s book name c ≡ Finding.Found x → Found x ≡ searchIn s book name c
-    unfolding findingIn searchIn
-    search-found x = go (findIn (limitsOf s book) (chunkBytes s book c) name) refl
-      where
-        go : (y : Hit) → findIn (limitsOf s book) (chunkBytes s book c) name ≡ y → findingOf s book c y ≡ Finding.Found x
-            → Found x ≡ cond (listingChunk (directoryOf s book) (shapeOf book) c)
-            (searchOf book c (nextOf (directoryOf s book c)) (lookup name (entriesIn (directoryOf s book c)))) Barred
-        go Nothing q r = absurd (let z : _≡_ {A = ℕ} 0 1 = cc in omega arith)
-        go (At e) q r =
-            let z : reportAt s book c e ≡ x = cc in
-            rw (h, found-in (At e) q) (ap (λ y. Found y) (sym z ∙ found-report e q))
+    unfolding searchIn
+    search-found x q = let f = finding-found x q in rw (h, found-in (At (f .0)) (f .1 .0)) (ap (λ y. Found y) (f .1 .1))
 
     pub search-next : (next : ℕ) → nextOf (directoryOf s book c) ≡ next → findingIn s book name c ≡ Finding.Nothing → Next next ≡ searchIn s book name c
-    unfolding findingIn searchIn
-    search-next next k = go (findIn (limitsOf s book) (chunkBytes s book c) name) refl
-      where
-        go : (y : Hit) → findIn (limitsOf s book) (chunkBytes s book c) name ≡ y → findingOf s book c y ≡ Finding.Nothing
-            → Next next ≡ cond (listingChunk (directoryOf s book) (shapeOf book) c)
-            (searchOf book c (nextOf (directoryOf s book c)) (lookup name (entriesIn (directoryOf s book c)))) Barred
-        go (At e) q r = absurd (let z : _≡_ {A = ℕ} 0 1 = cc in omega arith)
-        go Nothing q r = rw (h, found-in Nothing q) (ap (λ x. Next x) (sym k))
+    unfolding searchIn
+    search-next next k q = rw (h, found-in Nothing (finding-nothing q)) (ap (λ x. Next x) (sym k))
 
   pub search-barred : listingChunk (directoryOf s book) (shapeOf book) c ≡ false → Barred ≡ searchIn s book name c
   unfolding searchIn

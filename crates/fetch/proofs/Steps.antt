@@ -1,22 +1,20 @@
 -- What one turn of the descent makes of it.
 -- Assumes nothing.
-use mathlib.Core.Path.{_≡_, refl, sym, ap, _∙_}
+use mathlib.Core.Path.{_≡_, refl, ap, _∙_}
 use mathlib.Core.List.{List}
 use Prim.Native.Nat.{ℕ, suc, _-_, _<_}
 use native.Mathlib.Omega.{arith}
-use Rattle.seek.specs.Seek.{soughtOf, findIn, chooseIn}
+use Rattle.seek.specs.Seek.{chooseIn}
 use Rattle.seek.specs.declared.Child.the-variants.{Below, Nowhere}
-use Rattle.seek.specs.declared.Hit.{Hit}
-use Rattle.seek.specs.declared.Hit.the-variants.{At, Nothing}
 use Rattle.header.specs.declared.Record.{Record}
-use Rattle.tree.specs.Descent.{absent, answer}
+use Rattle.tree.specs.Descent.{absent}
 use Rattle.tree.specs.Fetch.{fetchFrom}
 use Rattle.tree.proofs.Steps.{leads-down, leads-nowhere}
-use Rattle.book.specs.Book.{limitsOf, chunkBytes, reportAt}
-use Rattle.book.specs.Search.{findingOf, findingIn, childIn}
+use Rattle.book.specs.Book.{limitsOf, chunkBytes}
+use Rattle.book.specs.Search.{findingIn, childIn}
 use Rattle.book.specs.declared.Finding.{Finding}
 use Rattle.book.specs.declared.Report.{Report}
-use Rattle.book.proofs.Searching.{found-report}
+use Rattle.book.proofs.Searching.{finding-found, finding-nothing}
 use Rattle.lookup.specs.Reply.{replyTo}
 use Rattle.lookup.specs.declared.Reply.{Reply}
 use Rattle.lookup.specs.declared.Reply.the-variants.{Found, Absent}
@@ -26,21 +24,12 @@ module _ (s : List ℕ) (book : Record) (name : List ℕ) where
   -- ---- the listing chunk
 
   pub leaf-found : (c : ℕ) (x : Report) → findingIn s book name c ≡ Finding.Found x → Found x ≡ replyTo book (fetchAt s book name 1 c)
-  unfolding findingIn fetchFrom
-  leaf-found c x = go (findIn (limitsOf s book) (chunkBytes s book c) name) refl
-    where
-      go : (y : Hit) → findIn (limitsOf s book) (chunkBytes s book c) name ≡ y → findingOf s book c y ≡ Finding.Found x
-          → Found x ≡ replyTo book (answer c (soughtOf (chunkBytes s book c) (findIn (limitsOf s book) (chunkBytes s book c) name)))
-      go Nothing q r = absurd (let z : _≡_ {A = ℕ} 0 1 = cc in omega arith)
-      go (At e) q r = let z : reportAt s book c e ≡ x = cc in rw q (ap (λ y. Found y) (sym z ∙ found-report s book name c e q))
+  unfolding fetchFrom
+  leaf-found c x q = let f = finding-found s book name c x q in rw (f .1 .0) (ap (λ y. Found y) (f .1 .1))
 
   pub leaf-absent : (c : ℕ) → findingIn s book name c ≡ Finding.Nothing → Absent ≡ replyTo book (fetchAt s book name 1 c)
-  unfolding findingIn fetchFrom
-  leaf-absent c = go (findIn (limitsOf s book) (chunkBytes s book c) name)
-    where
-      go : (y : Hit) → findingOf s book c y ≡ Finding.Nothing → Absent ≡ replyTo book (answer c (soughtOf (chunkBytes s book c) y))
-      go Nothing r = refl
-      go (At e) r = absurd (let z : _≡_ {A = ℕ} 0 1 = cc in omega arith)
+  unfolding fetchFrom
+  leaf-absent c q = rw (finding-nothing s book name c q) refl
 
   -- ---- an index chunk
 
