@@ -18,6 +18,10 @@
 extern "C" {
 #endif
 
+/* The order of names, by S1 and S2 of docs/FORMAT.md: 0 where a comes before b, 1 where they are equal, the case of A to Z aside, 2 where a comes behind b. Any
+   bytes have an order, also none and more than a name may have. It is the order by which entries rise for hods_write_head. */
+uint64_t hods_name_order(const uint8_t *a, size_t a_len, const uint8_t *b, size_t b_len);
+
 /* 0 and the book's record, or the refusal. */
 uint64_t hods_open(const uint8_t *file, size_t len, uint64_t record[HODS_RECORD]);
 

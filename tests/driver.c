@@ -7,6 +7,7 @@
      s RECORD CHUNK ENTRY            step: the code, the cursor, five numbers all 88 before
      p RECORD CHUNK NUMBERS          page into so many numbers, all 77 before: the code, two numbers all 88 before, a sum over the numbers
      b PLACE LENGTH                  part: its length
+     n HEXNAME HEXNAME               order of two names: its number
    A name or names of no bytes are written as a dash. */
 #define _POSIX_C_SOURCE 200809L
 
@@ -37,13 +38,14 @@ static void *taken(size_t n) {
     return bytes;
 }
 
-/* The bytes at the end of the line, in memory of just their number: what watches memory then sees a read behind them. */
+/* The next bytes of the line, in memory of just their number: what watches memory then sees a read behind them. */
 static uint8_t *bytes_in(size_t *n) {
     static const char digits[] = "0123456789abcdef";
     rest += strspn(rest, " ");
     *n = strspn(rest, digits) / 2;
     uint8_t *bytes = taken(*n);
     for (size_t i = 0; i < *n; i++, rest += 2) bytes[i] = (uint8_t)(16 * (strchr(digits, rest[0]) - digits) + (strchr(digits, rest[1]) - digits));
+    rest += *rest == '-';
     return bytes;
 }
 
@@ -116,6 +118,14 @@ static void ask_part(void) {
     printf("%" PRIu64, hods_part(file, len, place, n));
 }
 
+static void ask_order(void) {
+    size_t a_len, b_len;
+    uint8_t *a = bytes_in(&a_len), *b = bytes_in(&b_len);
+    printf("%" PRIu64, hods_name_order(a, a_len, b, b_len));
+    free(b);
+    free(a);
+}
+
 int main(int argc, char **argv) {
     FILE *f = argc == 2 ? fopen(argv[1], "rb") : NULL;
     if (!f) return 2;
@@ -136,6 +146,7 @@ int main(int argc, char **argv) {
         if (line[0] == 's') ask_step();
         if (line[0] == 'p') ask_page();
         if (line[0] == 'b') ask_part();
+        if (line[0] == 'n') ask_order();
         printf("\n");
     }
     free(line);

@@ -10,7 +10,7 @@ use lib.ListN.{length, getD, take, drop, length-append}
 use lib.Seq.{sets, getD-append-seam, append-snoc, length-take-le}
 use Rattle.fields.specs.Le.{le, bytes}
 use Rattle.fields.specs.Part.{part}
-use Rattle.fields.proofs.Parts.{past, getD-part}
+use Rattle.fields.proofs.Parts.{past, drop-more, getD-part}
 use Rattle.fields.proofs.Put.{sets-parts}
 
 -- ---- reading
@@ -60,6 +60,16 @@ le-agree (suc k) s t a b h =
     rw (x, y) (h (i + 1) (omega arith))
     in
     rw (e, le-agree k s t (a + 1) (b + 1) n)
+
+-- the same number comes of the same bytes
+module _ (s t : List ℕ) (small-s : (i : ℕ) → getD s i 0 < 256) (small-t : (i : ℕ) → getD t i 0 < 256) where
+  pub le-tells : (k a b : ℕ) → a + k ≤ length s → b + k ≤ length t → le k s a ≡ le k t b → part s a k ≡ part t b k
+  unfolding le
+  le-tells zero a b p q e = refl
+  le-tells (suc k) a b p q e =
+      let x : getD s a 0 ≡ getD t b 0 = omega (arith, e, small-s a, small-t b) in
+      let y : le k s (a + 1) ≡ le k t (b + 1) = omega (arith, e, small-s a, small-t b) in
+      rw (drop-more s a (omega arith), drop-more t b (omega arith)) (ap₂ _∷_ x (le-tells k (a + 1) (b + 1) (omega arith) (omega arith) y))
 
 -- a number inside a part
 pub le-part : (k : ℕ) (s : List ℕ) (at n i : ℕ) → i + k ≤ n → le k (part s at n) i ≡ le k s (at + i)

@@ -6,8 +6,8 @@ use Prim.Native.Nat.{ℕ, zero, suc, _+_, _≤_, _<_}
 use native.Mathlib.Nat.{zero-add, suc-add}
 use native.Mathlib.Numerals.{add-one}
 use native.Mathlib.Omega.{arith}
-use lib.ListN.{length, getD, take, drop, length-drop, List·getD-eq-default}
-use lib.Seq.{drop-cons, drop-drop, getD-take, getD-drop, length-take-le, take-nil, take-take, take-append-seam, drop-at}
+use lib.ListN.{length, getD, take, drop, length-drop, take-append-drop, List·getD-eq-default}
+use lib.Seq.{drop-cons, drop-drop, getD-take, getD-drop, length-take-le, take-nil, take-add, take-take, take-append-seam, drop-at}
 use borrow.Author.Tests.{le-leb, lt-leb}
 use Rattle.fields.specs.Part.{part, partOf}
 
@@ -33,6 +33,14 @@ module _ (s : List ℕ) (at n : ℕ) where
   pub part-outside : length s < at + n → partOf s at n ≡ []
   unfolding partOf
   part-outside h = rw (lt-leb _ _ h)
+
+-- a part and the one directly behind it
+pub part-add : (s : List ℕ) (at n m : ℕ) → part s at (n + m) ≡ part s at n ++ part s (at + n) m
+part-add s at n m = take-add n m (drop at s) ∙ ap (λ (r : List ℕ). part s at n ++ take m r) (drop-drop n at s)
+
+-- a part and all that is behind it
+pub part-rest : (s : List ℕ) (at n : ℕ) → drop at s ≡ part s at n ++ drop (at + n) s
+part-rest s at n = sym (take-append-drop n (drop at s)) ∙ ap (λ (r : List ℕ). part s at n ++ r) (drop-drop n at s)
 
 -- the part in the middle
 pub part-middle : (p l q : List ℕ) → part (p ++ (l ++ q)) (length p) (length l) ≡ l

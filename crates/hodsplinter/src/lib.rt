@@ -2,6 +2,7 @@
 ghost use mathlib.Core.Path.{_≡_};
 ghost use Prim.Native.Nat.{ℕ, _≤_};
 ghost use lib.ListN.{length};
+ghost use Rattle.names.specs.Names.{compared, orderCode};
 ghost use Rattle.lookup.specs.Lookup.{lookedUp, trailAfter};
 ghost use Rattle.listing.specs.Listing.{startOf, stepped, pageOf, pageIn};
 ghost use Rattle.scan.specs.Scan.{scanned};
@@ -69,6 +70,14 @@ fn record_numbers(r: Record) -> Numbers
         r.last,
         r.content,
     ]
+}
+
+// The order of names: 0 where a comes before b, 1 where they are equal, 2 where a comes behind b.
+#[no_mangle]
+pub extern "C" fn hods_name_order(a: &[u8], b: &[u8]) -> u64
+    ensures { λ r. ⌜ r ≡ orderCode (compared (now (a .entry)) (now (b .entry))) ⌝ }
+{
+    names::order_code(names::compare(a, b))
 }
 
 // Opens a book: 0 and its record, or the refusal with nothing changed.

@@ -3,18 +3,23 @@
 use mathlib.Core.Path.{_≡_, refl, sym, ap, _∙_}
 use mathlib.Core.Logic.{_≢_, _⊎_, inl, inr, ⊎-elim}
 use mathlib.Core.Bool.{true, false, false≢true}
-use mathlib.Core.List.{List, [], _∷_}
+use mathlib.Core.List.{List, [], _∷_, _++_}
 use Prim.Native.Nat.{ℕ}
 use Rattle.names.specs.Order.{flip, isLess, isEqual, notGreater, byElement, OrderLaws}
 use Rattle.names.specs.Names.{folded, compared, below, matches}
 use Rattle.names.specs.declared.Order.{Order}
 use Rattle.names.specs.declared.Order.the-variants.{Less, Equal, Greater}
-use Rattle.names.proofs.Orders.{through-laws, numbers-laws, lists-laws}
+use Rattle.names.proofs.Orders.{through-laws, numbers-laws, lists-behind, lists-laws}
 pub use Rattle.names.proofs.Orders.{equal-right, less-equal}
 
 pub names-laws : OrderLaws compared
 unfolding compared
 names-laws = lists-laws (through-laws numbers-laws folded)
+
+-- names that begin alike compare as what is behind does
+pub compared-behind : (p a b : List ℕ) → compared (p ++ a) (p ++ b) ≡ compared a b
+unfolding compared
+compared-behind p a b = lists-behind (through-laws numbers-laws folded) p a b
 
 -- ---- a test of an answer tells the answer; the other way round is `ap isLess`, `ap isEqual`, `ap notGreater`
 

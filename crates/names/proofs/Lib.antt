@@ -1,3 +1,4 @@
+pub mod Alikes
 pub mod Examples
 pub mod Laws
 pub mod Orders

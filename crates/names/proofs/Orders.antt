@@ -2,7 +2,7 @@
 -- Assumes nothing.
 use mathlib.Core.Path.{_≡_, refl, sym, ap₂, _∙_}
 use mathlib.Core.Bool.{false≢true}
-use mathlib.Core.List.{List, [], _∷_}
+use mathlib.Core.List.{List, [], _∷_, _++_}
 use Prim.Native.Nat.{ℕ, _<_}
 use native.Mathlib.Omega.{arith}
 use native.Mathlib.Decide.{decLt}
@@ -103,6 +103,12 @@ module _ {A : Type 0} {compare : A → A → Order} (L : OrderLaws compare) wher
   unfolding byElement
   lists-self [] = refl
   lists-self (x ∷ xs) = rw (L .compare-self x) (lists-self xs)
+
+  -- what both begin with decides nothing
+  pub lists-behind : (p a b : List A) → byElement compare (p ++ a) (p ++ b) ≡ byElement compare a b
+  unfolding byElement
+  lists-behind [] a b = refl
+  lists-behind (x ∷ p) a b = rw (L .compare-self x) (lists-behind p a b)
 
   lists-flip : (a b : List A) → byElement compare b a ≡ flip (byElement compare a b)
   unfolding byElement

@@ -1,3 +1,3 @@
 pub mod Order
 pub mod Names
-pub mod Common
+pub mod Alike

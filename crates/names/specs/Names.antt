@@ -7,6 +7,7 @@ use lib.Dec.{leb}
 use lib.ListN.{length}
 use Rattle.names.specs.Order.{isLess, isEqual, byNumber, byElement}
 use Rattle.names.specs.declared.Order.{Order}
+use Rattle.names.specs.declared.Order.the-variants.{Less, Equal, Greater}
 
 -- a byte as it is compared: 41..5A hex as 61..7A
 unfoldable pub folded : ℕ → ℕ
@@ -23,6 +24,12 @@ below a b = isLess (compared a b)
 -- a compares equal to b
 unfoldable pub matches : List ℕ → List ℕ → Bool
 matches a b = isEqual (compared a b)
+
+-- an answer as a number for hosts (S5)
+abbrev pub orderCode : Order → ℕ
+orderCode Less = 0
+orderCode Equal = 1
+orderCode Greater = 2
 
 -- a name that can be asked: 1 to 1,024 bytes (R15)
 abbrev pub askable : List ℕ → Bool

@@ -1,10 +1,10 @@
 // The order of names in a directory.
 ghost use mathlib.Core.Path.{_≡_};
-ghost use Prim.Native.Nat.{_+_, _^_, _≤_, _<_};
+ghost use Prim.Native.Nat.{_+_, _-_, _^_, _≤_, _<_};
 ghost use lib.ListN.{length};
 ghost use Rattle.fields.specs.Le.{le};
-ghost use Rattle.names.specs.Names.{folded, compared, below, matches, askable};
-ghost use Rattle.names.specs.Common.{Common};
+ghost use Rattle.names.specs.Names.{folded, compared, below, matches, orderCode, askable};
+ghost use Rattle.names.specs.Alike.{Reached};
 
 // How one name stands to another.
 pub enum Order {
@@ -54,49 +54,69 @@ fn eight(s: &[u8], i: usize) -> u64
     four(s, i) + 0x1_0000_0000 * four(s, i + 4)
 }
 
-// How many bytes the two names begin with in common, counted by eights.
-fn common8(a: &[u8], b: &[u8]) -> usize
-    ensures { λ r. ⌜ Common (now (a .entry)) (now (b .entry)) r ⌝ }
+// Up to where in a its bytes from `from` on are those of b from `at` on, looked at by eights and no further than `end`.
+fn run8(a: &[u8], from: usize, b: &[u8], at: usize, end: usize) -> usize
+    requires { ⌜ (from ≤ end) × (end ≤ length (now a)) × (at + (end - from) ≤ length (now b)) ⌝ }
+    ensures { λ r. ⌜ Reached (now (a .entry)) (now (b .entry)) from at end r ⌝ }
 {
-    let mut i: usize = 0;
-    while 8 <= a.len() - i {
-        if b.len() - i < 8 {
-            return i;
+    let mut j = from;
+    let mut k = at;
+    while 8 <= end - j {
+        if eight(a, j) != eight(b, k) {
+            return j;
         }
-        if eight(a, i) != eight(b, i) {
-            return i;
-        }
-        i += 8;
+        j += 8;
+        k += 8;
     }
-    i
+    j
 }
 
-// The same, one by one from a number on.
-fn common(a: &[u8], b: &[u8], from: usize) -> usize
-    requires { ⌜ Common (now a) (now b) from ⌝ }
-    ensures { λ r. ⌜ Common (now (a .entry)) (now (b .entry)) r ⌝ }
+// The same to the byte. The first is looked at alone: where it differs, eight cost more than they save.
+fn run(a: &[u8], from: usize, b: &[u8], at: usize, end: usize) -> usize
+    requires { ⌜ (from ≤ end) × (end ≤ length (now a)) × (at + (end - from) ≤ length (now b)) ⌝ }
+    ensures { λ r. ⌜ Reached (now (a .entry)) (now (b .entry)) from at end r ⌝ }
 {
-    let mut i = from;
-    while i < b.len() {
-        if a.len() <= i {
-            return i;
+    if from < end {
+        if a[from] != b[at] {
+            return from;
         }
-        if a[i] != b[i] {
-            return i;
-        }
-        i += 1;
     }
-    i
+    let mut j = run8(a, from, b, at, end);
+    let mut k = at + (j - from);
+    while j < end {
+        if a[j] != b[k] {
+            return j;
+        }
+        j += 1;
+        k += 1;
+    }
+    j
 }
 
-// How the name a stands to the name b. Names that stand beside each other mostly begin alike, and bytes that are the same need no folding.
+// The length of the shorter name.
+fn shorter(a: &[u8], b: &[u8]) -> usize
+    ensures { λ r. ⌜ (r ≤ length (now (a .entry))) × (r ≤ length (now (b .entry))) × (r < length (now (a .entry)) → length (now (b .entry)) ≤ r) ⌝ }
+{
+    if a.len() < b.len() { a.len() } else { b.len() }
+}
+
+// How the name a stands to the name b. Names that stand beside each other mostly agree byte for byte, and bytes that are the same need no folding: it is done at a
+// difference alone, and where the folded bytes agree, what is behind is passed over again.
 pub fn compare(a: &[u8], b: &[u8]) -> Order
     ensures { λ r. ⌜ r ≡ compared (now (a .entry)) (now (b .entry)) ⌝ }
 {
-    let mut i = common(a, b, common8(a, b));
-    while i < a.len() {
-        if b.len() <= i {
-            return Order::Greater;
+    let end = shorter(a, b);
+    let mut i: usize = 0;
+    loop {
+        i = run(a, i, b, i, end);
+        if end <= i {
+            if i < a.len() {
+                return Order::Greater;
+            }
+            if i < b.len() {
+                return Order::Less;
+            }
+            return Order::Equal;
         }
         let x = fold(a[i]);
         let y = fold(b[i]);
@@ -107,11 +127,6 @@ pub fn compare(a: &[u8], b: &[u8]) -> Order
             return Order::Greater;
         }
         i += 1;
-    }
-    if i < b.len() {
-        Order::Less
-    } else {
-        Order::Equal
     }
 }
 
@@ -134,6 +149,17 @@ pub fn is_match(a: &[u8], b: &[u8]) -> bool
         Order::Less => false,
         Order::Equal => true,
         Order::Greater => false,
+    }
+}
+
+// An answer as a number: 0 below, 1 equal, 2 above.
+pub fn order_code(o: Order) -> u64
+    ensures { λ r. ⌜ r ≡ orderCode o ⌝ }
+{
+    match o {
+        Order::Less => 0,
+        Order::Equal => 1,
+        Order::Greater => 2,
     }
 }
 

@@ -3,6 +3,7 @@
 
 mod batch;
 mod opened;
+mod order;
 
 use crate::coverage::{self, Coverage};
 use crate::lent::Lent;
@@ -103,13 +104,18 @@ impl Both {
     }
 
     fn told(self) -> Result<(), String> {
+        self.told_as(answer_text)
+    }
+
+    /// The same for answers that read in another way.
+    fn told_as(self, text: fn(u64) -> String) -> Result<(), String> {
         if self.second == self.library && self.differences.is_empty() {
             return Ok(());
         }
         let answers = format!(
             "second: {}\nlibrary: {}",
-            answer_text(self.second),
-            answer_text(self.library)
+            text(self.second),
+            text(self.library)
         );
         Err([vec![answers], self.differences].concat().join("\n"))
     }

@@ -1,7 +1,8 @@
 //! What came up in a run, counted, and what has to come up in a complete one.
 
 use crate::library;
-use second::generate;
+use second::generate::{self, pairs};
+use std::cmp::Ordering;
 use std::collections::BTreeMap;
 
 /// The names of refusals, and of an answer that is none.
@@ -13,6 +14,18 @@ const NUMBERS: [&str; 30] = [
 /// The name of a refusal's number; 0 stands for none.
 pub fn number(number: u8) -> &'static str {
     NUMBERS[usize::from(number)]
+}
+
+/// The names of the orders of two names, by their numbers (FORMAT S5).
+pub const ORDERS: [&str; 3] = ["below", "equal", "above"];
+
+/// What the first of two names is to the second.
+pub fn order_name(order: Ordering) -> &'static str {
+    match order {
+        Ordering::Less => ORDERS[0],
+        Ordering::Equal => ORDERS[1],
+        Ordering::Greater => ORDERS[2],
+    }
 }
 
 const OPENING: &[&str] = &[
@@ -70,6 +83,7 @@ const EXTREMES: [(u64, &str); 5] = [
 ];
 
 const GROUPS: &[(&str, &[&str])] = &[
+    ("order", &ORDERS),
     ("open", OPENING),
     ("lookup", &["found", "absent", "15", "16", "17"]),
     ("scan", &["found", "absent", "15", "17"]),
@@ -171,6 +185,53 @@ const GROUPS: &[(&str, &[&str])] = &[
         ],
     ),
     ("answer of a batch", &["found", "absent", "15"]),
+    (
+        "length of a name put in order",
+        &[
+            "0 bytes",
+            "1 byte",
+            "7 bytes",
+            "8 bytes",
+            "9 bytes",
+            "15 bytes",
+            "16 bytes",
+            "17 bytes",
+            "1,024 bytes",
+            "more than 1,024 bytes",
+        ],
+    ),
+    (
+        "where two names put in order differ",
+        &[
+            "nowhere",
+            "at byte 0",
+            "at bytes 1 to 6",
+            "at byte 7",
+            "at byte 8",
+            "at bytes 9 to 14",
+            "at byte 15",
+            "at byte 16",
+            "at bytes 17 to 1,023",
+            "at byte 1,024 or later",
+            "at the end of one",
+        ],
+    ),
+    (
+        "bytes that put two names in order",
+        &[
+            "40 and 60 hex",
+            "5B and 7B hex",
+            "C1 and E1 hex",
+            "DA and FA hex",
+            "40 and 41 hex",
+            "41 and 60 hex",
+            "5A and 5B hex",
+            "5A and 61 hex",
+            "5A and 7B hex",
+            "7F and 80 hex",
+            "00 and FF hex",
+        ],
+    ),
     (
         "descent",
         &[
@@ -282,8 +343,12 @@ impl Coverage {
             .flat_map(|(group, names)| names.iter().map(move |name| (*group, *name)));
         let numbers = RECORD.iter().chain(&CURSOR);
         let extremes = numbers.flat_map(|group| EXTREMES.map(|(_, name)| (*group, name)));
+        let ways = pairs::WAYS.iter().flat_map(|way| {
+            let orders = way.orders.iter();
+            orders.map(move |&order| (way.label, order_name(order)))
+        });
         let cases = generate::labels().into_iter().map(|label| ("case", label));
-        let order: Vec<_> = answers.chain(extremes).chain(cases).collect();
+        let order: Vec<_> = answers.chain(extremes).chain(ways).chain(cases).collect();
         Coverage {
             counts: order.iter().map(|&key| (key, 0)).collect(),
             order,

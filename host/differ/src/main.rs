@@ -11,6 +11,7 @@ mod lent;
 #[allow(unsafe_code)]
 #[path = "../../hodsplinter/src/raw.rs"]
 mod library;
+mod pairs;
 mod program;
 mod run;
 

@@ -2,13 +2,17 @@
 
 use crate::compare::{Asked, Differ};
 use crate::{coverage, features, program};
-use second::generate::questions::{about, questions};
+use second::generate::pairs::{pairs, Pair};
+use second::generate::questions::{about, names_in, questions};
 use second::generate::{self, Aim, Call, Case, Input, Random};
 use second::{chunk_entries, entry_bytes, Record, NONE};
 use std::path::Path;
 
 /// The program is run on the file of every so many cases.
 const PROGRAM_RUNS: u64 = 32;
+
+/// Changes the seed for the pairs of names.
+const PAIRS: u64 = u64::from_be_bytes(*b"in order");
 
 /// Content that is appended to a head to read it back has at most this length.
 const CONTENT: u64 = 65_536;
@@ -56,6 +60,8 @@ pub fn run(differ: &mut Differ, list: &Path, seed: u64, index: u64) -> Result<()
         let told = differ.program(&case.file, &written);
         told.map_err(|answers| failed(asked, answers))?;
     }
+    put_in_order(differ, seed, index, &case.file)
+        .map_err(|(asked, answers)| failed(asked, answers))?;
     aim_is_hit(differ, &case).map_err(|answers| failed(shown(&case.file, &case.call), answers))?;
     if let Ok(record) = &asked.opening {
         features::count(&mut differ.coverage, &case.file, record);
@@ -75,6 +81,24 @@ fn aim_is_hit(differ: &mut Differ, case: &Case) -> Result<(), String> {
     } else {
         Err(format!("aim: {:?}\nboth: {outcome:?}", case.aim))
     }
+}
+
+/// Asks for the order of names, those of the file among them; what was asked and the answers where
+/// they differ.
+fn put_in_order(
+    differ: &mut Differ,
+    seed: u64,
+    index: u64,
+    file: &[u8],
+) -> Result<(), (String, String)> {
+    // A third stream, so that nothing else depends on what this draws.
+    let random = &mut Random::of_case(seed ^ PAIRS, index);
+    let names = names_in(random, file);
+    for pair in pairs(random, &names) {
+        let told = differ.pair(&pair);
+        told.map_err(|answers| (shown_pair(&pair), answers))?;
+    }
+    Ok(())
 }
 
 /// On every so many cases, and on all that are about as long as the program takes.
@@ -146,11 +170,21 @@ fn count_read_back(differ: &mut Differ, file: &[u8], record: &Record) {
 
 /// What was asked, without the file, which a seed and a number make again.
 fn shown(file: &[u8], call: &Call) -> String {
-    const MOST: usize = 1000;
-    let mut text = format!("{call:?}");
-    if text.len() > MOST {
-        let half = MOST / 2;
-        text = format!("{} ... {}", &text[..half], &text[text.len() - half..]);
-    }
+    let text = shortened(format!("{call:?}"));
     format!("{text} of a file of {} bytes", file.len())
+}
+
+fn shown_pair(pair: &Pair) -> String {
+    let name = |bytes: &[u8]| shortened(bytes.escape_ascii().to_string());
+    let (left, right) = (name(&pair.left), name(&pair.right));
+    format!("the order of \"{left}\" and \"{right}\" ({})", pair.label)
+}
+
+fn shortened(text: String) -> String {
+    const MOST: usize = 1000;
+    if text.len() <= MOST {
+        return text;
+    }
+    let half = MOST / 2;
+    format!("{} ... {}", &text[..half], &text[text.len() - half..])
 }

@@ -1,4 +1,4 @@
-//! What a new book is made of: its entries in the order of names, and its content.
+//! What a new book is made of: its entries in the order of names (FORMAT S1, S2), and its content.
 
 use std::ffi::OsStr;
 use std::fs::{self, DirEntry};

@@ -1,6 +1,5 @@
 //! Entries of a book, and what a lookup answers.
 
-use std::cmp::Ordering;
 use std::fmt;
 use std::ops::Deref;
 
@@ -129,20 +128,4 @@ impl<'a> Lookup<'a> {
             Lookup::Found { trail, .. } | Lookup::Absent { trail } => *trail,
         }
     }
-}
-
-/// Compares names by the order of a book: byte by byte with `A` to `Z` raised to `a` to `z`; of a name and its beginning, the beginning comes
-/// first (docs/FORMAT.md, S1 and S2).
-///
-/// ```
-/// use hodsplinter::name_order;
-/// use std::cmp::Ordering;
-///
-/// assert_eq!(name_order(b"/A", b"/a"), Ordering::Equal);
-/// assert_eq!(name_order(b"/a", b"/a.htm"), Ordering::Less);
-/// assert_eq!(name_order(b"/[", b"/Z"), Ordering::Less);
-/// ```
-pub fn name_order(a: &[u8], b: &[u8]) -> Ordering {
-    let folded = a.iter().map(u8::to_ascii_lowercase);
-    folded.cmp(b.iter().map(u8::to_ascii_lowercase))
 }

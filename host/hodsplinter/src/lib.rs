@@ -11,7 +11,7 @@
 //! - [`batch`] opens a book and looks many names up, in one call.
 //! - [`Chain::open`] takes books with a broken index too, for scans alone.
 //! - [`Book::stored`] lends the bytes of an entry of section 0, [`Book::part`] any part of the file.
-//! - [`write_head`] makes the head of a new book from entries.
+//! - [`write_head`] makes the head of a new book from entries, which rise by [`name_order`].
 //!
 //! `cargo build` links `target/staticlib/libhodsplinter.a`, which `rt staticlib hodsplinter` makes; the environment variable `HODSPLINTER_LIB` can
 //! name another copy.
@@ -25,6 +25,7 @@ mod chain;
 mod encint;
 mod entry;
 mod listing;
+mod order;
 #[allow(unsafe_code)]
 mod raw;
 mod record;
@@ -35,8 +36,9 @@ mod writer;
 pub use batch::{batch, batch_bytes, push_name, read_answers, Answer, ANSWER};
 pub use book::Book;
 pub use chain::Chain;
-pub use entry::{name_order, Entry, Lookup, Trail};
+pub use entry::{Entry, Lookup, Trail};
 pub use listing::{Cursor, Entries, Steps};
+pub use order::name_order;
 pub use record::Record;
 pub use refusal::Refusal;
 pub use writer::{write_head, NewEntry, Options};

@@ -1,5 +1,5 @@
 //! The C functions of `include/hodsplinter.h`, each behind a function that lends it slices and returns its number. The wrapper and `differ` share this file: it has all
-//! unsafe code of the workspace.
+//! unsafe code of both.
 //!
 //! What the C side asks of its caller is that slices are real (a pointer that is not null and as many elements behind it) and that what is written
 //! does not overlap what is read. Rust's references are such slices, the empty one too, and a `&mut` overlaps no other reference. In return the
@@ -9,6 +9,7 @@
 pub const RECORD: usize = 11;
 
 extern "C" {
+    fn hods_name_order(a: *const u8, a_len: usize, b: *const u8, b_len: usize) -> u64;
     fn hods_open(file: *const u8, len: usize, record: *mut u64) -> u64;
     fn hods_lookup(
         file: *const u8,
@@ -77,6 +78,10 @@ extern "C" {
 
 // SAFETY, of every function below: each pointer comes from a slice or array of the length that is passed or that the header fixes, and what is written is
 // borrowed apart from what is read.
+
+pub fn name_order(a: &[u8], b: &[u8]) -> u64 {
+    unsafe { hods_name_order(a.as_ptr(), a.len(), b.as_ptr(), b.len()) }
+}
 
 pub fn open(file: &[u8], record: &mut [u64; RECORD]) -> u64 {
     unsafe { hods_open(file.as_ptr(), file.len(), record.as_mut_ptr()) }

@@ -21,6 +21,10 @@ fn told(code: u64) -> Told {
     }
 }
 
+pub fn name_order(a: &[u8], b: &[u8]) -> u64 {
+    raw::name_order(a, b)
+}
+
 pub fn open(file: &[u8], record: &mut [u64; RECORD]) -> Told {
     told(raw::open(file, record))
 }

@@ -10,6 +10,7 @@ pub mod damage;
 pub mod large;
 pub mod names;
 pub mod opening;
+pub mod pairs;
 pub mod plan;
 pub mod questions;
 mod random;

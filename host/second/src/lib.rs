@@ -22,7 +22,7 @@ pub use ask::{chunk_entries, lookup, part, scan, start, step};
 pub use batch::{batch, batch_after, batch_names, ANSWER};
 pub use chunk::quick_words;
 pub use frames::{entry_bytes, frames};
-pub use name::compare;
+pub use name::{compare, order};
 pub use number::{encint, read_encint};
 pub use open::open;
 pub use opened::{lookup_opened, stands_there, Expected};

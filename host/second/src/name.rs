@@ -15,6 +15,15 @@ pub fn compare(left: &[u8], right: &[u8]) -> Ordering {
     left.iter().map(fold).cmp(right.iter().map(fold))
 }
 
+/// The order of two names as hosts are told it (FORMAT S5).
+pub fn order(left: &[u8], right: &[u8]) -> u64 {
+    match compare(left, right) {
+        Ordering::Less => 0,
+        Ordering::Equal => 1,
+        Ordering::Greater => 2,
+    }
+}
+
 /// Whether each name is above the one before it.
 pub(crate) fn rise<'a>(names: impl IntoIterator<Item = &'a [u8]>) -> bool {
     let mut names = names.into_iter();

@@ -4,11 +4,13 @@ use second::generate::ask::{batch_case, joined, lookup_case, opened_case, scan_c
 use second::generate::book::{book, book_of_depth};
 use second::generate::damage::{damaged, damaged_twice, damages, varied};
 use second::generate::names::other_case;
+use second::generate::pairs::{pairs, Way, WAYS};
 use second::generate::plan::Book;
-use second::generate::questions::questions;
+use second::generate::questions::{names_in, questions};
 use second::generate::write::{deep_items, good_items, wide_entries};
 use second::generate::{case, labels, outcome_of, refusal_of, Aim, Call, Case, Random};
 use second::*;
+use std::cmp::Ordering;
 use std::collections::{BTreeMap, BTreeSet};
 
 /// All entries by steps of the cursor.
@@ -596,4 +598,54 @@ fn questions_ask_opened_books_the_same() {
         }
     }
     assert!(asked > 1000, "{asked}");
+}
+
+/// Every aim of a pair is hit, and just the orders that its way allows come of it, all of them.
+#[test]
+fn pairs_have_the_order_they_say() {
+    let random = &mut Random::new(24);
+    let mut seen = BTreeSet::new();
+    let mut lengths = BTreeSet::new();
+    for index in 0..3000 {
+        let names = names_in(random, &case(1, index).file);
+        for pair in pairs(random, &names) {
+            let order = compare(&pair.left, &pair.right);
+            assert!(pair.aim.map_or(true, |aim| aim == order), "{pair:?}");
+            assert_eq!(compare(&pair.right, &pair.left), order.reverse());
+            seen.insert((pair.label, order));
+            lengths.extend([pair.left.len(), pair.right.len()]);
+        }
+    }
+    let orders = |way: &Way| -> Vec<(&str, Ordering)> {
+        let orders = way.orders.iter();
+        orders.map(|&order| (way.label, order)).collect()
+    };
+    assert_eq!(seen, WAYS.iter().flat_map(orders).collect());
+    assert!((0..=40)
+        .chain([1024, 1025])
+        .all(|length| lengths.contains(&length)));
+    assert!(lengths.last() > Some(&2000));
+}
+
+/// The byte that decides stands at each of the first places, with and without letters in another
+/// case in front of it.
+#[test]
+fn pairs_differ_at_every_place() {
+    let random = &mut Random::new(25);
+    let mut places = BTreeSet::new();
+    for _ in 0..4000 {
+        for pair in pairs(random, &[]) {
+            let bytes = || pair.left.iter().zip(&pair.right);
+            let first = bytes().position(|(one, two)| one != two);
+            let decides = bytes().position(|(one, two)| compare(&[*one], &[*two]).is_ne());
+            places.insert((first < decides, decides));
+        }
+    }
+    for place in 0..=20 {
+        assert!(places.contains(&(false, Some(place))), "{place}");
+        assert!(
+            place == 0 || places.contains(&(true, Some(place))),
+            "{place}"
+        );
+    }
 }

@@ -79,6 +79,25 @@ fn names() {
     }
 }
 
+/// FORMAT S5, with the names of S3; empty and long ones have an order too.
+#[test]
+fn orders_as_numbers() {
+    let long = [b'n'; 3000];
+    let examples: [(&[u8], &[u8], u64); 8] = [
+        (b"/A", b"/a", 1),
+        (b"/a", b"/a.htm", 0),
+        (b"/a.htm", b"/a", 2),
+        (b"/[", b"/Z", 0),
+        (b"/Z", b"/[", 2),
+        (b"", b"", 1),
+        (b"", b"\0", 0),
+        (&long, &long[1..], 2),
+    ];
+    for (left, right, number) in examples {
+        assert_eq!(order(left, right), number);
+    }
+}
+
 /// FORMAT C14, C6.
 #[test]
 fn quick_words_by_density() {

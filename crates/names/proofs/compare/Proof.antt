@@ -1,32 +1,52 @@
 -- `compare` meets its contract. The loop's invariant: what is left of the two names compares as the whole names do.
 -- Assumes nothing.
-use mathlib.Core.Path.{_≡_, sym, _∙_}
-use Prim.Native.Nat.{_≤_, _-_}
+use mathlib.Core.Path.{_≡_, refl, sym, _∙_}
+use Prim.Native.Nat.{_+_, _-_, _≤_}
 use native.Mathlib.Omega.{arith}
-use lib.ListN.{length, drop}
+use lib.ListN.{drop}
 use Rattle.names.specs.Names.{compared}
 use Rattle.names.specs.declared.Order.the-variants.{Less, Equal, Greater}
+use Rattle.names.proofs.Alikes.{alike-compares}
 use Rattle.names.proofs.Steps.{first-ends, second-ends, both-end, turn}
 use Rattle.names.proofs.compare.Statement.{statement}
 use Rattle.names.proofs.compare.Tie as tie
 
 abbrev Inv-loop : tie.InvT-loop
-Inv-loop a b i₀ i = (i ≤ length a) × (i ≤ length b) × (compared a b ≡ compared (drop i a) (drop i b))
+Inv-loop a b end i₀ i = (i ≤ end) × (compared a b ≡ compared (drop i a) (drop i b))
 
 abbrev μ-loop : tie.MeasureT-loop
-μ-loop a b i₀ i = length a - i
+μ-loop a b end i₀ i = end - i
 
-common8-requires : tie.Need-common8-requires Inv-loop μ-loop
-common8-requires c κs = tt
+-- behind what the names have in common
+passed :
+    (c : tie.After-run Inv-loop μ-loop)
+    → compared (c .before .before .before .before .before .args .a .now) (c .before .before .before .before .before .args .b .now)
+    ≡ compared (drop (c .run .result) (c .before .before .before .before .before .args .a .now)) (drop (c .run .result) (c .before .before .before .before .before .args .b .now))
+passed c =
+    let l = c .before .loop in
+    let r = c .run .ensures in
+    let e : l .i + (c .run .result - l .i) ≡ c .run .result = omega (arith, r .0) in
+    l .inv .1 ∙ rw e at (alike-compares _ _ (l .i) (l .i) (c .run .result - l .i) (r .2))
 
-common-requires : tie.Need-common-requires Inv-loop μ-loop
-common-requires c κs = c .common8 .ensures
+shorter-requires : tie.Need-shorter-requires Inv-loop μ-loop
+shorter-requires c κs = tt
 
 loop-holds : tie.Need-loop-holds Inv-loop μ-loop
-loop-holds c = c .common .ensures
+loop-holds c = (omega arith, refl)
+
+run-requires : tie.Need-run-requires Inv-loop μ-loop
+run-requires c κs = (omega arith, omega arith, omega arith)
 
 returns : tie.Need-returns Inv-loop μ-loop
-returns c = let l = c .before .before in sym (l .loop .inv .2 ∙ second-ends _ _ (l .loop .i) (omega arith) (omega arith))
+returns c =
+    let p = c .before .before in
+    sym (passed p ∙ second-ends _ _ (p .run .result) (omega arith) (omega (arith, p .before .before .shorter .ensures .2 (omega arith))))
+
+returns-2 : tie.Need-returns-2 Inv-loop μ-loop
+returns-2 c = let p = c .before .before .before in sym (passed p ∙ first-ends _ _ (p .run .result) (omega arith) (omega arith))
+
+returns-3 : tie.Need-returns-3 Inv-loop μ-loop
+returns-3 c = let p = c .before .before .before in sym (passed p ∙ both-end _ _ (p .run .result) (omega arith) (omega arith))
 
 shared-slice-read-fold : tie.Need-shared-slice-read-fold Inv-loop μ-loop
 shared-slice-read-fold c = omega arith
@@ -40,15 +60,11 @@ shared-slice-read-fold-2 c = omega arith
 fold-requires-2 : tie.Need-fold-requires-2 Inv-loop μ-loop
 fold-requires-2 c κs = tt
 
-returns-2 : tie.Need-returns-2 Inv-loop μ-loop
-returns-2 c =
-    let l = c .before .before .before .before .before .before .before in
-    sym (l .loop .inv .2 ∙ turn _ _ (l .loop .i) Less (omega arith) (omega arith) (omega arith))
+returns-4 : tie.Need-returns-4 Inv-loop μ-loop
+returns-4 c = let p = c .before .before .before .before .before .before in sym (passed p ∙ turn _ _ (p .run .result) Less (omega arith) (omega arith) (omega arith))
 
-returns-3 : tie.Need-returns-3 Inv-loop μ-loop
-returns-3 c =
-    let l = c .before .before .before .before .before .before .before .before in
-    sym (l .loop .inv .2 ∙ turn _ _ (l .loop .i) Greater (omega arith) (omega arith) (omega arith))
+returns-5 : tie.Need-returns-5 Inv-loop μ-loop
+returns-5 c = let p = c .before .before .before .before .before .before .before in sym (passed p ∙ turn _ _ (p .run .result) Greater (omega arith) (omega arith) (omega arith))
 
 add-i : tie.Need-add-i Inv-loop μ-loop
 add-i c = omega arith
@@ -58,14 +74,8 @@ loop-less c = omega arith
 
 loop-again : tie.Need-loop-again Inv-loop μ-loop
 loop-again c =
-    let l = c .before .before .before .before .before .before .before .before in
-    (omega arith, omega arith, l .loop .inv .2 ∙ turn _ _ (l .loop .i) Equal (omega arith) (omega arith) (omega arith))
-
-returns-4 : tie.Need-returns-4 Inv-loop μ-loop
-returns-4 c = let l = c .before .before in sym (l .loop .inv .2 ∙ first-ends _ _ (l .loop .i) (omega arith) (omega arith))
-
-returns-5 : tie.Need-returns-5 Inv-loop μ-loop
-returns-5 c = let l = c .before .before in sym (l .loop .inv .2 ∙ both-end _ _ (l .loop .i) (omega arith) (omega arith))
+    let p = c .before .before .before .before .before .before .before in
+    (omega arith, passed p ∙ turn _ _ (p .run .result) Equal (omega arith) (omega arith) (omega arith))
 
 pub compare-spec : {M : Type 1} → statement M
 compare-spec =
@@ -73,18 +83,18 @@ compare-spec =
     (tie.spec
     Inv-loop
     μ-loop
-    common8-requires
-    common-requires
+    shorter-requires
     loop-holds
+    run-requires
     returns
+    returns-2
+    returns-3
     shared-slice-read-fold
     fold-requires
     shared-slice-read-fold-2
     fold-requires-2
-    returns-2
-    returns-3
+    returns-4
+    returns-5
     add-i
     loop-less
-    loop-again
-    returns-4
-    returns-5)
+    loop-again)

@@ -103,6 +103,14 @@ fn claimed_record(file: &[u8]) -> Option<Record> {
     })
 }
 
+/// Names that stand in some bytes, as far as these claim a record with which chunks can be met.
+pub fn names_in(random: &mut Random, file: &[u8]) -> Vec<Vec<u8>> {
+    match claimed_record(file) {
+        Some(record) => Bytes { file, record }.some_names(random),
+        None => Vec::new(),
+    }
+}
+
 /// A record for bytes that claim none.
 fn shapeless(random: &mut Random) -> Record {
     Record {
