@@ -77,7 +77,7 @@ fn record_numbers(r: Record) -> Numbers
 pub extern "C" fn hods_name_order(a: &[u8], b: &[u8]) -> u64
     ensures { λ r. ⌜ r ≡ orderCode (compared (now (a .entry)) (now (b .entry))) ⌝ }
 {
-    names::order_code(names::compare(a, b))
+    names::order_of(a, b)
 }
 
 // Opens a book: 0 and its record, or the refusal with nothing changed.

@@ -153,7 +153,7 @@ pub fn is_match(a: &[u8], b: &[u8]) -> bool
 }
 
 // An answer as a number: 0 below, 1 equal, 2 above.
-pub fn order_code(o: Order) -> u64
+fn order_code(o: Order) -> u64
     ensures { λ r. ⌜ r ≡ orderCode o ⌝ }
 {
     match o {
@@ -161,6 +161,13 @@ pub fn order_code(o: Order) -> u64
         Order::Equal => 1,
         Order::Greater => 2,
     }
+}
+
+// How a stands to b, as a number.
+pub fn order_of(a: &[u8], b: &[u8]) -> u64
+    ensures { λ r. ⌜ r ≡ orderCode (compared (now (a .entry)) (now (b .entry))) ⌝ }
+{
+    order_code(compare(a, b))
 }
 
 // Whether a name can be asked.

@@ -1,8 +1,8 @@
 use borrow.Author.Needs.{needs}
 use mathlib.Core.Path.{ap, _∙_}
 use Rattle.names.specs.Names.{orderCode}
-use Rattle.hodsplinter.proofs.hods_name_order.Statement.{statement}
-use Rattle.hodsplinter.proofs.hods_name_order.Tie as tie
+use Rattle.names.proofs.order_of.Statement.{statement}
+use Rattle.names.proofs.order_of.Tie as tie
 
 compare-requires : tie.Need-compare-requires
 compare-requires c κs = search needs
@@ -13,5 +13,5 @@ order-code-requires c κs = search needs
 returns : tie.Need-returns
 returns c = c .order-code .ensures ∙ ap orderCode (c .before .compare .ensures)
 
-pub hods-name-order-spec : {M : Type 1} → statement M
-hods-name-order-spec = tie.close (tie.spec compare-requires order-code-requires returns)
+pub order-of-spec : {M : Type 1} → statement M
+order-of-spec = tie.close (tie.spec compare-requires order-code-requires returns)
