@@ -11,7 +11,7 @@
 
 #include "hodsplinter.h"
 
-/* The refusals of docs/FORMAT.md that opening, lookup and a batch give. */
+/* The refusals of docs/FORMAT.md that opening, lookup, a batch and a comparison give. */
 static const char *const why[] = {
     "", "the file has fewer than 96 bytes", "no ITSF file: its tag or one of its GUIDs differs", "the version or the length of the file header",
     "the place or the length of a section, or the content start", "the file is not as long as it says",

@@ -57,6 +57,19 @@ uint64_t hods_step(const uint8_t *file, size_t len, const uint64_t record[HODS_R
    places for them, with nothing changed (4,070 always do); or the refusal. */
 uint64_t hods_chunk(const uint8_t *file, size_t len, const uint64_t record[HODS_RECORD], uint64_t chunk, uint64_t *entries, size_t numbers, uint64_t next[2]);
 
+/* Two books side by side, by the section Comparison of docs/FORMAT.md. The cursor is two walks along a chain of five numbers each, then four totals. 0, and the
+   cursor at the start. */
+uint64_t hods_compare_start(const uint64_t one[HODS_RECORD], const uint64_t two[HODS_RECORD], uint64_t cursor[14]);
+
+/* The next difference, in the order of names: 0 with difference[0] 1 for a name that is only in the first book, 2 for one that is only in the second, 3 for
+   one that is in both with another section, offset or length; then seven numbers of the first book's entry (name's place, its length, section, offset,
+   length, place and length of the entry's own bytes) and seven of the second's, 0 for one that is not there; and the cursor moved on. 255 at the end with
+   the totals (only in the first, only in the second, the same, changed), cursor and difference as they were. Else the refusal, 17 + 256 * FFFFFFFF, plus 2^40
+   times the number of its book, 1 or 2, with nothing changed. On two books that open, with their records, none is refused from the start on. One call goes over
+   all names up to the next difference, which may be both books to their ends; with a cursor that no call gave it may take as long as that cursor's numbers say. */
+uint64_t hods_compare_step(const uint8_t *file1, size_t len1, const uint64_t one[HODS_RECORD], const uint8_t *file2, size_t len2, const uint64_t two[HODS_RECORD],
+                           uint64_t cursor[14], uint64_t difference[15], uint64_t totals[4]);
+
 /* The length of that part of the file: the length asked for where it lies inside, else 0. */
 uint64_t hods_part(const uint8_t *file, size_t len, uint64_t place, uint64_t length);
 

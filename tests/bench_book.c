@@ -1,5 +1,6 @@
-/* Measures opening, full listing by pages and lookups on one book, and writing its head anew: bench_book FILE. The head must be one that the writer lays
-   out. Times are the best of five rounds. */
+/* Measures opening, full listing by pages and lookups on one book, writing its head anew, and comparing it with itself and with the same book without each 61st
+   name: bench_book FILE LESS. The head must be one that the writer lays out. Times are the best of five rounds, of comparisons the best of fifteen. The
+   status is 1 where a comparison takes longer than its goal allows. */
 #include <pthread.h>
 #include <stdint.h>
 #include <stdio.h>
@@ -67,18 +68,78 @@ static double write_best(const uint8_t *file, size_t len, const uint64_t *record
     return best;
 }
 
-/* The deepest stack of one call, by a painted stack of its own. */
-static const uint8_t *the_file;
-static size_t the_len;
-static uint64_t the_record[HODS_RECORD];
+/* A book as it is lent, and its record. */
+struct book { uint8_t *file; size_t len; uint64_t record[HODS_RECORD]; };
 
-static void *call_open(void *x) { hods_open(the_file, the_len, the_record); return x; }
-static void *call_page(void *x) { uint64_t next[2]; hods_chunk(the_file, the_len, the_record, the_record[8], page, 4070, next); return x; }
-static void *call_lookup(void *x) { uint32_t trail[5]; uint64_t answer[6]; hods_lookup(the_file, the_len, the_record, (const uint8_t *)"~", 1, trail, 5, answer); return x; }
-static void *call_scan(void *x) { uint64_t answer[5]; hods_scan(the_file, the_len, the_record, (const uint8_t *)"~", 1, answer); return x; }
-static void *call_opened(void *x) { uint64_t answer[5]; hods_lookup_opened(the_file, the_len, the_record, (const uint8_t *)"~", 1, answer); return x; }
-static void *call_batch(void *x) { uint8_t answers[32]; hods_batch(the_file, the_len, (const uint8_t *)"\1~", 2, answers, 32); return x; }
-static void *call_write(void *x) { write_head(the_record, the_len); return x; }
+/* A file in memory, opened; the program ends where there is no book. */
+static struct book read_book(const char *path) {
+    struct book book;
+    FILE *f = fopen(path, "rb");
+    if (!f) { perror(path); exit(2); }
+    fseek(f, 0, SEEK_END);
+    book.len = (size_t)ftell(f);
+    rewind(f);
+    book.file = malloc(book.len);
+    if (!book.file || fread(book.file, 1, book.len, f) != book.len) { perror(path); exit(2); }
+    fclose(f);
+    uint64_t r = hods_open(book.file, book.len, book.record);
+    if (r) { fprintf(stderr, "%s: refused: %llu\n", path, (unsigned long long)r); exit(1); }
+    return book;
+}
+
+/* Compares two opened books from the start to the end; how many differences were told. */
+static size_t compare_all(const struct book *one, const struct book *two, uint64_t totals[4]) {
+    static uint64_t cursor[14], difference[15];
+    size_t told = 0;
+    uint64_t r = hods_compare_start(one->record, two->record, cursor);
+    while (r == 0 && (r = hods_compare_step(one->file, one->len, one->record, two->file, two->len, two->record, cursor, difference, totals)) == 0) told++;
+    if (r != 255) { fprintf(stderr, "comparison refused\n"); exit(1); }
+    return told;
+}
+
+static double list_time(const struct book *book, uint64_t *names, size_t *entries) {
+    double t = now();
+    *entries = list_all(book->file, book->len, book->record, names, 2000000);
+    return now() - t;
+}
+
+static double least(double a, double b) { return a < b ? a : b; }
+
+/* Lists two books and compares them, in turn, so that other work of the machine disturbs both alike. The second has the entries of the first but for so many.
+   True where comparing meets its goal, at most 1.5 times listing both. */
+static int compare_best(const char *what, const struct book *one, const struct book *two, size_t missing, uint64_t *names) {
+    double one_best = 1e9, two_best = 1e9, best = 1e9;
+    size_t one_entries = 0, two_entries = 0;
+    for (int round = 0; round < 15; round++) {
+        uint64_t totals[4] = {0};
+        one_best = least(one_best, list_time(one, names, &one_entries));
+        two_best = least(two_best, list_time(two, names, &two_entries));
+        double t = now();
+        size_t told = compare_all(one, two, totals);
+        best = least(best, now() - t);
+        if (told != missing || one_entries != two_entries + missing || totals[0] != missing || totals[1] || totals[2] != two_entries || totals[3]) {
+            fprintf(stderr, "not the differences of the two books\n");
+            exit(1);
+        }
+    }
+    double both = one_best + two_best;
+    printf("compare with %s: %.2f ms, %.0f MB/s, %zu differences, %zu the same; listing both %.2f ms\n", what, best * 1e3,
+           (double)(one->len + two->len) / best / 1e6, missing, two_entries, both * 1e3);
+    printf("goal: compare with %s, at most 1.5 times listing both: %.2f, %s\n", what, best / both, best <= 1.5 * both ? "met" : "missed");
+    return best <= 1.5 * both;
+}
+
+/* The deepest stack of one call, by a painted stack of its own. */
+static struct book the_book, the_less;
+
+static void *call_open(void *x) { hods_open(the_book.file, the_book.len, the_book.record); return x; }
+static void *call_page(void *x) { uint64_t next[2]; hods_chunk(the_book.file, the_book.len, the_book.record, the_book.record[8], page, 4070, next); return x; }
+static void *call_lookup(void *x) { uint32_t trail[5]; uint64_t answer[6]; hods_lookup(the_book.file, the_book.len, the_book.record, (const uint8_t *)"~", 1, trail, 5, answer); return x; }
+static void *call_scan(void *x) { uint64_t answer[5]; hods_scan(the_book.file, the_book.len, the_book.record, (const uint8_t *)"~", 1, answer); return x; }
+static void *call_opened(void *x) { uint64_t answer[5]; hods_lookup_opened(the_book.file, the_book.len, the_book.record, (const uint8_t *)"~", 1, answer); return x; }
+static void *call_batch(void *x) { uint8_t answers[32]; hods_batch(the_book.file, the_book.len, (const uint8_t *)"\1~", 2, answers, 32); return x; }
+static void *call_compare(void *x) { uint64_t totals[4]; compare_all(&the_book, &the_less, totals); return x; }
+static void *call_write(void *x) { write_head(the_book.record, the_book.len); return x; }
 static void *call_nothing(void *x) { return x; }
 
 static size_t deepest(void *(*call)(void *)) {
@@ -97,13 +158,13 @@ static size_t deepest(void *(*call)(void *)) {
 }
 
 int main(int argc, char **argv) {
-    FILE *f = argc == 2 ? fopen(argv[1], "rb") : NULL;
-    if (!f) { fprintf(stderr, "usage: bench_book FILE\n"); return 2; }
-    fseek(f, 0, SEEK_END);
-    size_t len = (size_t)ftell(f);
-    rewind(f);
-    uint8_t *file = malloc(len);
-    if (fread(file, 1, len, f) != len) return 2;
+    if (argc != 3) { fprintf(stderr, "usage: bench_book FILE LESS\n"); return 2; }
+    /* the book with itself is two copies in memory, as two issues are */
+    struct book copy = read_book(argv[1]);
+    the_book = read_book(argv[1]);
+    the_less = read_book(argv[2]);
+    const uint8_t *file = the_book.file;
+    size_t len = the_book.len;
     uint64_t record[HODS_RECORD], answer[6];
     uint32_t trail[5];
     double open_best = 1e9, list_best = 1e9, hit_best = 1e9, miss_best = 1e9;
@@ -149,12 +210,13 @@ int main(int argc, char **argv) {
     double write_time = write_best(file, len, record);
     printf("write the head, %llu bytes, from %zu bytes of entries: %.2f ms, %.0f MB/s\n", (unsigned long long)record[10], the_size, write_time * 1e3,
            (double)record[10] / write_time / 1e6);
-    the_file = file;
-    the_len = len;
+    int met = compare_best("itself", &the_book, &copy, 0, names);
+    met &= compare_best("one that lacks each 61st name", &the_book, &the_less, entries / 61, names);
     size_t idle = deepest(call_nothing);
     size_t open_stack = deepest(call_open) - idle, page_stack = deepest(call_page) - idle, lookup_stack = deepest(call_lookup) - idle;
-    size_t scan_stack = deepest(call_scan) - idle, opened_stack = deepest(call_opened) - idle, batch_stack = deepest(call_batch) - idle, write_stack = deepest(call_write) - idle;
-    printf("peak stack: open %zu bytes, page %zu bytes, lookup %zu bytes, scan %zu bytes, lookup in an opened book %zu bytes, batch %zu bytes, write %zu bytes\n", open_stack,
-           page_stack, lookup_stack, scan_stack, opened_stack, batch_stack, write_stack);
-    return 0;
+    size_t scan_stack = deepest(call_scan) - idle, opened_stack = deepest(call_opened) - idle, batch_stack = deepest(call_batch) - idle;
+    size_t compare_stack = deepest(call_compare) - idle, write_stack = deepest(call_write) - idle;
+    printf("peak stack: open %zu bytes, page %zu bytes, lookup %zu bytes, scan %zu bytes, lookup in an opened book %zu bytes, batch %zu bytes, compare %zu bytes, write %zu bytes\n",
+           open_stack, page_stack, lookup_stack, scan_stack, opened_stack, batch_stack, compare_stack, write_stack);
+    return !met;
 }

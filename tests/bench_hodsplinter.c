@@ -3,9 +3,9 @@
 
 #include "../include/hodsplinter.h"
 
-static uint64_t record[HODS_RECORD], page[4070];
-static uint8_t *entries, *head, *names, *answers;
-static size_t entries_len, head_len, names_len, answers_len;
+static uint64_t record[HODS_RECORD], less_record[HODS_RECORD], page[4070];
+static uint8_t *entries, *head, *names, *answers, *less;
+static size_t entries_len, head_len, names_len, answers_len, less_len;
 
 static size_t encint_len(uint64_t n) {
     size_t len = 1;
@@ -13,20 +13,37 @@ static size_t encint_len(uint64_t n) {
     return len;
 }
 
-/* The bytes of all entries one behind another, from their reports: each number has one encoding. */
-static void gather(void) {
+/* The bytes of the entries one behind another, from their reports: each number has one encoding. Where `step` is not 0, each step-th is left out. Their length. */
+static size_t gather(uint8_t *to, size_t step) {
     uint64_t next[2];
-    entries = malloc(book_len);
+    size_t size = 0, count = 0;
     for (uint64_t chunk = record[8]; chunk != 0xFFFFFFFFu; chunk = next[1]) {
         if (hods_chunk(book, book_len, record, chunk, page, 4070, next)) fail("listing refused");
         for (uint64_t *e = page; e < page + 5 * next[0]; e += 5) {
             size_t front = encint_len(e[1]), len = front + e[1] + encint_len(e[2]) + encint_len(e[3]) + encint_len(e[4]);
-            memcpy(entries + entries_len, book + e[0] - front, len);
-            entries_len += len;
+            if (step && ++count % step == 0) continue;
+            memcpy(to + size, book + e[0] - front, len);
+            size += len;
         }
     }
-    head_len = record[10];
-    head = malloc(head_len);
+    return size;
+}
+
+static uint64_t write_head(const uint8_t *from, size_t from_len, uint8_t *to) {
+    uint64_t len[1];
+    if (hods_write_head(from, from_len, (uint32_t)record[5], (uint32_t)record[1], (uint32_t)record[2], book_len - record[10], to, head_len, len)) fail("not written");
+    return len[0];
+}
+
+/* The book without each 61st name, by the writer. */
+static void make_less(void) {
+    uint8_t *fewer = malloc(book_len);
+    less = malloc(book_len);
+    less_len = write_head(fewer, gather(fewer, 61), less);
+    memcpy(less + less_len, book + record[10], book_len - record[10]);
+    less_len += book_len - record[10];
+    free(fewer);
+    if (hods_open(less, less_len, less_record)) fail("refused");
 }
 
 /* The names that are there as a batch takes them, each behind the ENCINT of its length, and room for their answers. */
@@ -44,8 +61,12 @@ static void gather_names(void) {
 
 static void ready(void) {
     if (hods_open(book, book_len, record)) fail("refused");
-    gather();
+    head_len = record[10];
+    head = malloc(head_len);
+    entries = malloc(book_len);
+    entries_len = gather(entries, 0);
     gather_names();
+    make_less();
 }
 
 void measure_open(void) {
@@ -121,17 +142,25 @@ void measure_list(void) {
     kept += sum;
 }
 
-void measure_write(void) {
-    uint64_t len[1];
-    if (hods_write_head(entries, entries_len, (uint32_t)record[5], (uint32_t)record[1], (uint32_t)record[2], book_len - record[10], head, head_len, len))
-        fail("not written");
-    kept += len[0];
+/* The book and another from the start to the end; what is the same and what is not. */
+static void compare(const uint8_t *other, size_t other_len, const uint64_t *other_record) {
+    uint64_t cursor[14], difference[15], totals[4], r = hods_compare_start(record, other_record, cursor);
+    while (r == 0) r = hods_compare_step(book, book_len, record, other, other_len, other_record, cursor, difference, totals);
+    if (r != 255) fail("comparison refused");
+    kept += totals[0] + totals[1] + totals[2] + totals[3];
 }
+
+void measure_compare(void) { compare(book, book_len, record); }
+
+void measure_compare_less(void) { compare(less, less_len, less_record); }
+
+void measure_write(void) { kept += write_head(entries, entries_len, head); }
 
 int main(int argc, char **argv) {
     static const struct measure all[] = {{"open", measure_open}, {"open_path", measure_open_path}, {"find_hit", measure_find_hit}, {"find_miss", measure_find_miss},
                                          {"opened_hit", measure_opened_hit}, {"opened_miss", measure_opened_miss}, {"batch", measure_batch},
-                                         {"scan", measure_scan}, {"list", measure_list},           {"write", measure_write}};
+                                         {"scan", measure_scan}, {"list", measure_list}, {"compare", measure_compare},
+                                         {"compare_less", measure_compare_less}, {"write", measure_write}};
     int status = measured(argc, argv, "hodsplinter", all, sizeof all / sizeof *all, ready);
     /* the books for measuring have the head that the writer makes */
     if (argc == 3 && memcmp(head, book, head_len)) fail("the head that was written is not the book's");

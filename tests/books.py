@@ -563,10 +563,8 @@ def random_entries(r, names, content):
     return out
 
 
-def random_book(r, chunks=14):
-    """A builder for a good book with random options, of at most so many chunks."""
-    content = r.randbytes(r.choice((0, 1, 5, 127, 128, 1500)))
-    names = random_names(r, r.choice((1, 2, 3, 6, 11, 20, 40, 40, 80, 300)))
+def random_options(r):
+    """Options of a Builder."""
     options = dict(
         version=r.choice((2, 3, 3)), density=r.choice((0, 1, 2, 2, 3, 4, 5, 6, 7)),
         per=r.choice((None, None, 1, 5, 6, 11, 40, lambda: r.randint(1, 30))),
@@ -580,7 +578,12 @@ def random_book(r, chunks=14):
         for name in UNCHECKED:
             width = {**FILE, **SECTION0, **DIRECTORY}[name][1]
             options[name] = r.randbytes(width) if name in AS_BYTES else r.getrandbits(8 * width)
-    entries = random_entries(r, names, len(content))
+    return options
+
+
+def fitted(entries, content, options, chunks):
+    """A builder for a good book of at most so many chunks, with as many of the
+    entries as that takes."""
     while True:
         b = Builder(entries, content, **options)
         if b.depth <= 5 and len(b.parts) <= chunks:
@@ -588,3 +591,11 @@ def random_book(r, chunks=14):
         if len(entries) == 1:
             options['depth'] = 1
         entries = entries[:max(1, len(entries) * 2 // 3)]
+
+
+def random_book(r, chunks=14):
+    """A builder for a good book with random options, of at most so many chunks."""
+    content = r.randbytes(r.choice((0, 1, 5, 127, 128, 1500)))
+    names = random_names(r, r.choice((1, 2, 3, 6, 11, 20, 40, 40, 80, 300)))
+    options = random_options(r)
+    return fitted(random_entries(r, names, len(content)), content, options, chunks)

@@ -1,9 +1,10 @@
-"""Makes the sample books, and the input and expected output of the program `list`.
+"""Makes the sample books, and the input and expected output of the programs `list` and `diff`.
 
   make_books.py                      writes the files
   make_books.py --check              writes nothing and says what differs
-  make_books.py --large FILE         a book of 4,096 chunks with about 30 entries a listing chunk
-  make_books.py --large-short FILE   one with short names, about 210 entries a listing chunk
+  make_books.py --large FILE [LESS]  a book of 4,096 chunks with about 30 entries a listing chunk, and the same book without each 61st name
+  make_books.py --large-short FILE [LESS]
+                                     one with short names, about 210 entries a listing chunk
   make_books.py --measured KIND FILE NAMES
                                      a book of 100,000 long or 600,000 short names (KIND long, short) in about 3,700 chunks, and names to
                                      look up in it, a line each: 4,000 that it has, behind +, and 4,000 that it lacks, behind -
@@ -27,6 +28,15 @@ def sample():
     return Builder([(b'/', 0, 0, 0), (b'/a.htm', 0, 0, 5)], b'hello')
 
 
+def later():
+    """The second book of FORMAT P10: the sample book with an entry changed, its name in another case, and one more."""
+    return Builder([(b'/', 0, 0, 0), (b'/A.htm', 0, 0, 4), (b'/b', 1, 7, 9)], b'help')
+
+
+# what the program `diff` prints of the two, by FORMAT P10
+DIFFERENCES = b'03062f612e68746d000005062f412e68746d000004\n02022f62010709\n'
+
+
 def several():
     """Six listing chunks under index chunks of two levels, the numbers not along the chain."""
     pages = ['/events/%s/%s/station-%02d/Protocol-of-the-slide-and-of-all-its-damage.htm' % (y, p, i)
@@ -48,12 +58,14 @@ def several():
 
 def made():
     """The files and what they hold."""
-    books = {'samples/sample.chm': sample().build(), 'samples/several.chm': several().build()}
+    books = {'samples/sample.chm': sample().build(), 'samples/later.chm': later().build(), 'samples/several.chm': several().build()}
     for path, data in books.items():
         if opened(data)[0] != 'book' or len(data) > 60000:
             raise SystemExit('%s is no book for the program' % path)
     data = books['samples/sample.chm']
-    return dict(books, **{'crates/list/stdin': data, 'crates/list/stdout': frames(data).encode()})
+    programs = {'crates/list/stdin': data, 'crates/list/stdout': frames(data).encode(), 'crates/diff/stdout': DIFFERENCES,
+                'crates/diff/data/sample.chm': data, 'crates/diff/data/later.chm': books['samples/later.chm']}
+    return dict(books, **programs)
 
 
 # Books for measuring
@@ -90,8 +102,7 @@ def large(entry, count=4096, density=2):
     raise SystemExit('no book of %d chunks' % count)
 
 
-def write_large(entry, path):
-    b = large(entry)
+def write_built(b, path):
     data = b.build()
     if opened(data) != ('book', b.record()):
         raise SystemExit('the large book is refused')
@@ -99,6 +110,14 @@ def write_large(entry, path):
         f.write(data)
     print('%d bytes, %d chunks, %d of them listing chunks, depth %d, %d entries'
           % (len(data), len(b.parts), len(b.levels[0]), b.depth, len(b.names())))
+
+
+def write_large(entry, path, less=None):
+    b = large(entry)
+    write_built(b, path)
+    if less:
+        entries = [e for part in b.levels[0] for e in part.entries]
+        write_built(Builder([e for i, e in enumerate(entries, 1) if i % 61], density=b.density), less)
 
 
 def measured_long(i):
@@ -132,8 +151,8 @@ def write_measured(kind, path, names_path, asked=4000):
 def main():
     if len(sys.argv) == 5 and sys.argv[1] == '--measured' and sys.argv[2] in MEASURED:
         return write_measured(*sys.argv[2:])
-    if len(sys.argv) == 3 and sys.argv[1] in ('--large', '--large-short'):
-        return write_large(long_entry if sys.argv[1] == '--large' else short_entry, sys.argv[2])
+    if len(sys.argv) in (3, 4) and sys.argv[1] in ('--large', '--large-short'):
+        return write_large(long_entry if sys.argv[1] == '--large' else short_entry, *sys.argv[2:])
     if sys.argv[1:] not in ([], ['--check']):
         raise SystemExit(__doc__)
     top = os.path.dirname(os.path.dirname(os.path.abspath(__file__)))

@@ -17,7 +17,7 @@ use Rattle.chunk.specs.Chunk.{entryOf, isKind}
 use Rattle.chunk.proofs.Accepted.{accepted}
 use Rattle.header.specs.Header.{within}
 use Rattle.header.specs.declared.Record.{Record}
-use Rattle.book.specs.Book.{limitsOf, chunkPlace, chunkBytes, directoryOf, bookFits, reportOf, reportAt}
+use Rattle.book.specs.Book.{limitsOf, chunkPlace, chunkBytes, directoryOf, bookFits, reportOf, reportAt, ownOf, ownAt}
 
 module _ (s : List ℕ) (r : Record) (c : ℕ) where
   pub chunk-inside : length (chunkBytes s r c) ≡ 4096 → chunkPlace r c + 4096 ≤ length s
@@ -48,6 +48,12 @@ module _ (s : List ℕ) (r : Record) (c : ℕ) where
       let i = chunk-inside e in
       let n = length-part (chunkBytes s r c) (p .start) (p .len) (omega arith) in
       rw (le-leb (chunkPlace r c + p .start) (length s) (omega arith), n)
+
+  pub own-entry : (p : Place) → length (chunkBytes s r c) ≡ 4096 → p .at ≤ 4096 → ownAt s r c p ≡ ownOf r c (entryOf (chunkBytes s r c) p)
+  unfolding ownAt ownOf
+  own-entry p e h =
+      let i = chunk-inside e in
+      rw (le-leb (chunkPlace r c + p .at) (length s) (omega arith))
 
 -- a record that can be asked has few chunks and levels
 pub fits-told : (s : List ℕ) (book : Record) → bookFits s book ≡ true → (book .count ≤ 4096) × (1 ≤ book .depth) × (book .depth ≤ 5)

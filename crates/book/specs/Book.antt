@@ -18,6 +18,7 @@ use Rattle.header.specs.declared.Record.{Record}
 use Rattle.tree.specs.Shape.{Shape, noChunk}
 use Rattle.book.specs.declared.Refusal.{Refusal}
 use Rattle.book.specs.declared.Report.{Report}
+use Rattle.book.specs.declared.Own.{Own}
 
 -- what the chunks are held to
 unfoldable pub limitsOf : List ℕ → Record → Limits
@@ -66,3 +67,12 @@ reportAt s r c e =
       offset = e .offset;
       size = e .size;
     }
+
+-- the own bytes of an entry of chunk c, as stored: their place in the file, and how many there are
+unfoldable pub ownOf : Record → ℕ → Entry → Own
+ownOf r c e = record { place = chunkPlace r c + e .at; length = e .next - e .at }
+
+-- the same of what was read at a place, 0 for a place that is not inside the file
+unfoldable pub ownAt : List ℕ → Record → ℕ → Place → Own
+ownAt s r c e =
+    record { place = cond (leb (chunkPlace r c + e .at) (length s)) (chunkPlace r c + e .at) 0; length = e .next - e .at }

@@ -3,7 +3,7 @@ ghost use mathlib.Core.Path.{_≡_};
 ghost use mathlib.Core.Bool.{cond};
 ghost use Prim.Native.Nat.{_+_, _-_, _/_};
 ghost use lib.Dec.{leb};
-ghost use Rattle.book.specs.Book.{limitsOf, chunkBytes, chunkPlace, shapeOf, bookFits, metChunk, refusalOf, reportAt};
+ghost use Rattle.book.specs.Book.{limitsOf, chunkBytes, chunkPlace, shapeOf, bookFits, metChunk, refusalOf, reportAt, ownAt};
 ghost use Rattle.book.specs.Search.{findingIn, childIn, searchIn};
 ghost use Rattle.tree.specs.Tree.{top};
 use chunk::Chunk;
@@ -26,6 +26,12 @@ pub struct Report {
     pub section: u64,
     pub offset: u64,
     pub size: u64,
+}
+
+// The own bytes of an entry: where they stand in the file, and how many there are.
+pub struct Own {
+    pub place: u64,
+    pub length: u64,
 }
 
 // What the search in the bytes of a chunk comes to.
@@ -170,6 +176,26 @@ pub fn report_of(file: &[u8], book: Record, c: u64, e: Place) -> Report
         section: e.section,
         offset: e.offset,
         size: e.size,
+    }
+}
+
+// How far a place is behind another; 0 where it is not.
+fn distance(from: usize, to: usize) -> u64
+    ensures { λ r. ⌜ r ≡ to - from ⌝ }
+{
+    if to < from {
+        return 0;
+    }
+    (to - from) as u64
+}
+
+// The own bytes of an entry of chunk c, as stored.
+pub fn own_of(file: &[u8], book: Record, c: u64, e: Place) -> Own
+    ensures { λ r. ⌜ r ≡ ownAt (now (file .entry)) book c e ⌝ }
+{
+    Own {
+        place: place_in(file.len(), book, c as usize, e.at),
+        length: distance(e.at, e.next),
     }
 }
 

@@ -23,8 +23,8 @@ unfoldable pub limits : Limits
 limits = record { density = 2; count = 1; content = 5 }
 
 pub sample-parsed : parsed limits sample ≡ listing 0xFFFFFFFF 0xFFFFFFFF
-    (record { at = 20; start = 21; name = 0x2F ∷ []; section = 0; offset = 0; size = 0; child = 0 }
-    ∷ record { at = 25; start = 26; name = 0x2F ∷ 0x61 ∷ 0x2E ∷ 0x68 ∷ 0x74 ∷ 0x6D ∷ []; section = 0; offset = 0; size = 5; child = 0 } ∷ [])
+    (record { at = 20; start = 21; name = 0x2F ∷ []; section = 0; offset = 0; size = 0; child = 0; next = 25 }
+    ∷ record { at = 25; start = 26; name = 0x2F ∷ 0x61 ∷ 0x2E ∷ 0x68 ∷ 0x74 ∷ 0x6D ∷ []; section = 0; offset = 0; size = 5; child = 0; next = 35 } ∷ [])
 unfolding parsed parsedAs framed judged entriesAt itemAt listingAt nameAt encintAt decoded rest rising quick quickAt below compared byElement byNumber folded standsAt same le sample limits
 sample-parsed = refl
 

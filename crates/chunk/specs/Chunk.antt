@@ -16,7 +16,7 @@ use Rattle.entries.specs.declared.Item.the-variants.{Good}
 
 -- ---- what a chunk can mean
 
--- an entry: its place in the chunk, its name's place and bytes, its numbers (those that its kind lacks are 0)
+-- an entry: its place in the chunk, its name's place and bytes, its numbers (those that its kind lacks are 0), the place behind it
 pub record Entry : Type 0 where
   pub at : ℕ
   pub start : ℕ
@@ -25,6 +25,7 @@ pub record Entry : Type 0 where
   pub offset : ℕ
   pub size : ℕ
   pub child : ℕ
+  pub next : ℕ
 
 -- `bad` has the refusal's number, `listing` the previous and the next listing chunk
 pub data Parsed : Type 0 where
@@ -74,7 +75,7 @@ pub data Entries : Type 0 where
 -- the entry at a place, with its name's bytes
 abbrev pub entryOf : List ℕ → Place → Entry
 entryOf s e =
-    record { at = e .at; start = e .start; name = nameOf s e; section = e .section; offset = e .offset; size = e .size; child = e .child }
+    record { at = e .at; start = e .start; name = nameOf s e; section = e .section; offset = e .offset; size = e .size; child = e .child; next = e .next }
 
 abbrev pub push : Entry → Entries → Entries
 push e broken = broken

@@ -11,10 +11,16 @@ ghost use Rattle.batch.specs.Batch.{batchOf, answersIn};
 ghost use Rattle.directory.specs.Opened.{opened};
 ghost use Rattle.directory.specs.declared.Opened.the-variants.{Book};
 ghost use Rattle.hodsplinter.specs.Numbers.{recordIn, numbersOf, refusalCode, openCode, openRecord, lookupCode, lookupNumbers, replyCode, replyNumbers, batchCode, cursorOf, cursorNumbers, stepCode, stepCursor, stepNumbers, pageCode, pageNumbers, partLength, writeCode, writeNumbers};
+ghost use Rattle.compare.specs.Compare.{compareStart};
+ghost use Rattle.hodsplinter.specs.Differences.{walksIn, totalNumbers, walksNumbers, nothing, fifteenOf, comparisonAt, compareCode, compareCursor, compareNumbers, compareTotals};
 ghost use Rattle.layout.specs.Layout.{layoutFor, headBytes};
 ghost use Rattle.head.specs.Head.{written, outputFor};
 use batch::Batched;
+use book::Own;
 use book::Refusal;
+use book::Report;
+use compare::Shown;
+use compare::Totals;
 use directory::Opened;
 use head::Written;
 use header::Record;
@@ -23,6 +29,7 @@ use listing::Page;
 use listing::Step;
 use lookup::Answer;
 use lookup::Reply;
+use walk::Walk;
 
 // The numbers of a record; `HODS_RECORD` in include/hodsplinter.h is how many there are.
 type Numbers = [u64; 11];
@@ -240,6 +247,164 @@ pub extern "C" fn hods_chunk(
         }
         Page::Short => 255,
         Page::Refused(r) => code(r),
+    }
+}
+
+// The comparison cursor of fourteen numbers.
+fn walks_in(n: &[u64; 14]) -> compare::Cursor
+    ensures { λ r. ⌜ r ≡ walksIn (now (n .entry)) ⌝ }
+{
+    let first = Walk {
+        chunk: n[0],
+        at: n[1],
+        left: n[2],
+        next: n[3],
+        more: n[4],
+    };
+    let second = Walk {
+        chunk: n[5],
+        at: n[6],
+        left: n[7],
+        next: n[8],
+        more: n[9],
+    };
+    let totals = Totals {
+        first: n[10],
+        second: n[11],
+        same: n[12],
+        changed: n[13],
+    };
+    compare::Cursor {
+        first,
+        second,
+        totals,
+    }
+}
+
+// The fourteen numbers of a comparison cursor.
+fn walks_numbers(at: compare::Cursor) -> [u64; 14]
+    ensures { λ r. ⌜ r ≡ walksNumbers at ⌝ }
+{
+    let a = at.first;
+    let b = at.second;
+    let t = at.totals;
+    [
+        a.chunk,
+        a.at,
+        a.left,
+        a.next,
+        a.more,
+        b.chunk,
+        b.at,
+        b.left,
+        b.next,
+        b.more,
+        t.first,
+        t.second,
+        t.same,
+        t.changed,
+    ]
+}
+
+// No entry.
+fn no_entry() -> Shown
+    ensures { λ r. ⌜ r ≡ nothing ⌝ }
+{
+    let report = Report {
+        place: 0,
+        length: 0,
+        section: 0,
+        offset: 0,
+        size: 0,
+    };
+    let own = Own {
+        place: 0,
+        length: 0,
+    };
+    Shown { report, own }
+}
+
+// The fifteen numbers of a difference.
+fn fifteen(kind: u64, x: Shown, y: Shown) -> [u64; 15]
+    ensures { λ r. ⌜ r ≡ fifteenOf kind x y ⌝ }
+{
+    let a = x.report;
+    let b = y.report;
+    let p = x.own;
+    let q = y.own;
+    [
+        kind,
+        a.place,
+        a.length,
+        a.section,
+        a.offset,
+        a.size,
+        p.place,
+        p.length,
+        b.place,
+        b.length,
+        b.section,
+        b.offset,
+        b.size,
+        q.place,
+        q.length,
+    ]
+}
+
+// The totals at the end of a comparison, and the code.
+fn tell_totals(t: Totals, totals: &mut [u64; 4]) -> u64
+    ensures code { λ r. ⌜ r ≡ 255 ⌝ }
+    ensures numbers { λ _. ⌜ now (totals .exit) ≡ totalNumbers t ⌝ }
+{
+    *totals = [t.first, t.second, t.same, t.changed];
+    255
+}
+
+// The start of a comparison.
+#[no_mangle]
+pub extern "C" fn hods_compare_start(one: &Numbers, two: &Numbers, cursor: &mut [u64; 14]) -> u64
+    ensures answer { λ r. ⌜ r ≡ 0 ⌝ }
+    ensures cursor { λ _. ⌜ now (cursor .exit) ≡ walksNumbers (compareStart (recordIn (now (one .entry))) (recordIn (now (two .entry)))) ⌝ }
+{
+    *cursor = walks_numbers(compare::Cursor::start(record_in(one), record_in(two)));
+    0
+}
+
+// The next difference of a comparison: 0 with its numbers and the cursor moved on, 255 at the end with the totals, or the refusal beside its book.
+#[no_mangle]
+pub extern "C" fn hods_compare_step(
+    file1: &[u8],
+    one: &Numbers,
+    file2: &[u8],
+    two: &Numbers,
+    cursor: &mut [u64; 14],
+    difference: &mut [u64; 15],
+    totals: &mut [u64; 4],
+) -> u64
+    ensures answer { λ r. ⌜ r ≡ compareCode (comparisonAt (now (file1 .entry)) (now (one .entry)) (now (file2 .entry)) (now (two .entry)) (now (cursor .entry))) ⌝ }
+    ensures cursor { λ _. ⌜ now (cursor .exit) ≡ compareCursor (comparisonAt (now (file1 .entry)) (now (one .entry)) (now (file2 .entry)) (now (two .entry)) (now (cursor .entry))) (now (cursor .entry)) ⌝ }
+    ensures numbers { λ _. ⌜ now (difference .exit) ≡ compareNumbers (comparisonAt (now (file1 .entry)) (now (one .entry)) (now (file2 .entry)) (now (two .entry)) (now (cursor .entry))) (now (difference .entry)) ⌝ }
+    ensures totals { λ _. ⌜ now (totals .exit) ≡ compareTotals (comparisonAt (now (file1 .entry)) (now (one .entry)) (now (file2 .entry)) (now (two .entry)) (now (cursor .entry))) (now (totals .entry)) ⌝ }
+{
+    let at = walks_in(cursor);
+    match at.step(file1, record_in(one), file2, record_in(two)) {
+        compare::Step::First(x, next) => {
+            *cursor = walks_numbers(next);
+            *difference = fifteen(1, x, no_entry());
+            0
+        }
+        compare::Step::Second(y, next) => {
+            *cursor = walks_numbers(next);
+            *difference = fifteen(2, no_entry(), y);
+            0
+        }
+        compare::Step::Changed(x, y, next) => {
+            *cursor = walks_numbers(next);
+            *difference = fifteen(3, x, y);
+            0
+        }
+        compare::Step::End(t) => tell_totals(t, totals),
+        compare::Step::Refused(k, r) => code(r) + 0x100_0000_0000 * (k as u64),
     }
 }
 

@@ -16,7 +16,7 @@ use Rattle.book.specs.Book.{chunkBytes, directoryOf, shapeOf, bookFits}
 use Rattle.listing.specs.Listing.{refusal, numbersOf, reportsIn, canList, hasRoom, pageOf, pageIn}
 use Rattle.listing.specs.declared.Page.{Page}
 use Rattle.listing.specs.declared.Page.the-variants.{Entries, Short, Refused}
-use Rattle.listing.proofs.Read.{entries-length}
+use Rattle.book.proofs.Read.{entries-length}
 
 module _ (s : List ℕ) (book : Record) (c : ℕ) (t : List ℕ) where
   -- the answer r, and the lent slice as it is then

@@ -1,12 +1,10 @@
--- The entries of a listing chunk that passed its check, as they are read: their count, entry i, and each behind the one before it.
+-- Entry i of a listing chunk that passed its check, as it is found.
 -- Assumes nothing.
 use mathlib.Core.Path.{_≡_, refl, sym, ap, _∙_}
 use mathlib.Core.Bool.{Bool, true, false, cond}
-use mathlib.Core.List.{List, _∷_}
-use Prim.Native.Nat.{ℕ, zero, suc, _+_, _-_, _/_, _%_, _<_}
+use mathlib.Core.List.{List}
+use Prim.Native.Nat.{ℕ, zero, suc, _/_, _%_, _<_}
 use native.Mathlib.Omega.{arith}
-use lib.ListN.{length, drop}
-use lib.Seq.{drop-drop}
 use lib.Dec.{ltb}
 use borrow.Author.Tests.{ltb-true}
 use Rattle.entries.specs.Entry.{itemAt}
@@ -14,16 +12,14 @@ use Rattle.entries.specs.declared.Limits.{Limits}
 use Rattle.entries.specs.declared.Place.{Place}
 use Rattle.entries.specs.declared.Item.{Item}
 use Rattle.entries.specs.declared.Item.the-variants.{Good, Bad}
-use Rattle.entries.proofs.Laws.{item-inside}
-use Rattle.chunk.specs.Chunk.{Entry, all, entryOf, withItem, entriesAt, countOf, tailOf, spacingOf, entriesIn}
-use Rattle.chunk.proofs.Accepted.{Accepted, accepted, entries-more, entries-count}
+use Rattle.chunk.specs.Chunk.{Entry, entryOf, withItem, countOf, spacingOf, entriesIn}
 use Rattle.seek.specs.Seek.{absent, found, nth, soughtOf, afterAt, groupAt, nthIn}
 use Rattle.seek.specs.declared.Hit.the-variants.{At, Nothing}
 use Rattle.seek.proofs.Good.{nth-good}
 use Rattle.header.specs.declared.Record.{Record}
 use Rattle.tree.specs.Shape.{isListing}
 use Rattle.book.specs.Book.{limitsOf, chunkBytes, directoryOf, reportOf, reportAt}
-use Rattle.book.proofs.Laws.{chunk-whole, report-entry}
+use Rattle.book.proofs.Read.{read-reported}
 
 -- ---- an entry that was found was read at a place
 
@@ -58,17 +54,6 @@ nth-read limits k s i e h = go (ltb i (countOf s)) refl h
     go true l d = let r = after-read limits k s _ _ e d in (ltb-true _ _ l, r .0, r .1)
     go false l d = absurd (let z : _≡_ {A = ℕ} 0 1 = cc in omega arith)
 
--- ---- entries that are left: those from entry i on
-
-pub left-more : (limits : Limits) (s : List ℕ) (end n i at : ℕ) (es : List Entry) → i < n → entriesAt limits true s end (n - i) at ≡ all (drop i es)
-    → (p : Place) × (itemAt limits true s at ≡ Good p) × (drop i es ≡ entryOf s p ∷ drop (i + 1) es)
-    × (entriesAt limits true s end (n - (i + 1)) (p .next) ≡ all (drop (i + 1) es))
-left-more limits s end n i at es l e =
-    let q : n - i ≡ suc (n - (i + 1)) = omega arith in
-    let m = entries-more limits true s end (n - (i + 1)) at (drop i es) (rw q at e) in
-    let r : drop (i + 1) es ≡ m .1 = sym (drop-drop 1 i es) ∙ ap (drop 1) (m .3) in
-    (m .0, m .2, m .3 ∙ ap (λ xs. entryOf s (m .0) ∷ xs) (sym r), m .4 ∙ ap all (sym r))
-
 -- ---- a listing chunk of a book
 
 module _ (s : List ℕ) (book : Record) (c : ℕ) (is : isListing (directoryOf s book c) ≡ true) where
@@ -82,33 +67,12 @@ module _ (s : List ℕ) (book : Record) (c : ℕ) (is : isListing (directoryOf s
   abbrev es : List Entry
   es = entriesIn (directoryOf s book c)
 
-  good : Accepted limits true bytes es
-  unfolding directoryOf
-  good = accepted limits true bytes is
-
-  pub entries-length : length es ≡ countOf bytes
-  entries-length = entries-count limits true bytes (4096 - tailOf bytes) (countOf bytes) 20 es (good .entries)
-
-  pub entries-some : 0 < length es
-  entries-some = let l = entries-length in let g = good .some in omega arith
-
-  -- all of them are left at first
-  pub entries-left : entriesAt limits true bytes (4096 - tailOf bytes) (countOf bytes - 0) 20 ≡ all es
-  entries-left = let z : countOf bytes - 0 ≡ countOf bytes = omega arith in rw z (good .entries)
-
-  -- what was read is reported as its entry says
-  pub read-reported : (at : ℕ) (e : Place) → itemAt limits true bytes at ≡ Good e → reportAt s book c e ≡ reportOf book c (entryOf bytes e)
-  read-reported at e h =
-      let z = good .size in
-      let i = item-inside limits true bytes at e h .name in
-      report-entry s book c e (chunk-whole s book c true is) (omega arith)
-
   pub nth-hit : (i : ℕ) (e : Place) → nthIn limits true bytes i ≡ At e
       → (i < countOf bytes) × (nth i es ≡ found (entryOf bytes e)) × (reportAt s book c e ≡ reportOf book c (entryOf bytes e))
   unfolding directoryOf
   nth-hit i e h =
       let r = nth-read limits true bytes i e h in
-      (r .0, sym (nth-good limits bytes true i is) ∙ ap (soughtOf bytes) h, read-reported (r .1) e (r .2))
+      (r .0, sym (nth-good limits bytes true i is) ∙ ap (soughtOf bytes) h, read-reported s book c is (r .1) e (r .2))
 
   pub nth-nothing : (i : ℕ) → nthIn limits true bytes i ≡ Nothing → nth i es ≡ absent
   unfolding directoryOf

@@ -22,7 +22,7 @@ use Rattle.listing.specs.Listing.{cursorAt, stepped, reportsIn}
 use Rattle.listing.specs.Whole.{cursorIn, stepsFrom, cursorAfter}
 use Rattle.listing.specs.declared.Cursor.{Cursor}
 use Rattle.listing.specs.declared.Step.the-variants.{Entry as Reported, End}
-use Rattle.listing.proofs.Read.{entries-some}
+use Rattle.book.proofs.Read.{entries-some}
 use Rattle.listing.proofs.Stepping.{entry-inside, entry-last, step-entry}
 
 -- ---- a run

@@ -18,7 +18,8 @@ use Rattle.book.specs.Book.{limitsOf, chunkBytes, directoryOf, shapeOf, bookFit
 use Rattle.listing.specs.Listing.{refusal, cursorAt, movedOn, entryStep, stepped}
 use Rattle.listing.specs.declared.Cursor.{Cursor}
 use Rattle.listing.specs.declared.Step.the-variants.{Entry as Reported, End, Refused}
-use Rattle.listing.proofs.Read.{entries-length, nth-hit, nth-nothing}
+use Rattle.book.proofs.Read.{entries-length}
+use Rattle.listing.proofs.Read.{nth-hit, nth-nothing}
 
 -- at a cursor in a chunk that is p
 module _ (book : Record) (p : Parsed) (at : Cursor) where

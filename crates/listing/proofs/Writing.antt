@@ -17,7 +17,7 @@ use Rattle.tree.specs.Shape.{isListing}
 use Rattle.book.specs.Book.{limitsOf, chunkBytes, directoryOf, reportOf, reportAt}
 use Rattle.book.specs.declared.Report.{Report}
 use Rattle.listing.specs.Listing.{fiveOf, numbersOf, reportsIn}
-use Rattle.listing.proofs.Read.{left-more, entries-left, entries-length, read-reported}
+use Rattle.book.proofs.Read.{left-more, entries-left, entries-length, read-reported}
 
 -- five stores one behind another
 pub five-stores : (t : List ℕ) (at a b c d e : ℕ) → set (set (set (set (set t at a) (at + 1) b) (at + 2) c) (at + 3) d) (at + 4) e ≡ sets t at (a ∷ b ∷ c ∷ d ∷ e ∷ [])

@@ -72,6 +72,7 @@ module _ (s : List ℕ) (book : Record) (c : ℕ) (whole : length (chunkBytes s 
         offset = e .offset;
         size = e .size;
         child = e .child;
+        next = at + entrySize true e;
       } in
       let head : toldOf s (reportOf book c x) ≡ e =
       ap₂ (λ (name : List ℕ) (child : ℕ). let r : Stored = record { name = name; section = e .section; offset = e .offset; size = e .size; child = child } in r)

@@ -48,8 +48,8 @@ module _ (D : ℕ → Parsed) (f : ℕ → List Stored → Parsed) where
 -- ---- names
 
 -- an entry at a place of its chunk
-abbrev placed : ℕ → Stored → Entry
-placed at e =
+abbrev placed : Bool → ℕ → Stored → Entry
+placed k at e =
     record {
       at = at;
       start = at + length (encoded (length (e .name)));
@@ -58,6 +58,7 @@ placed at e =
       offset = e .offset;
       size = e .size;
       child = e .child;
+      next = at + entrySize k e;
     }
 
 module _ (k : Bool) where
@@ -71,14 +72,14 @@ module _ (k : Bool) where
   unfolding placedFrom final rises
   behind-last at s [] rest h = h
   behind-last at s (e ∷ g) rest h =
-      behind-last (at + entrySize k e) (found (placed at e)) g rest (and-both (below (nameIn s) (e .name)) (rises (e .name) (g ++ rest)) h .1)
+      behind-last (at + entrySize k e) (found (placed k at e)) g rest (and-both (below (nameIn s) (e .name)) (rises (e .name) (g ++ rest)) h .1)
 
   pub placed-last : (at : ℕ) (last : List ℕ) (g rest : List Stored) → 0 < length g → rises last (g ++ rest) ≡ true
       → rises (nameIn (final absent (placedFrom k at g))) rest ≡ true
   unfolding placedFrom final rises
   placed-last at last [] rest p h = absurd (omega arith)
   placed-last at last (e ∷ g) rest p h =
-      behind-last (at + entrySize k e) (found (placed at e)) g rest (and-both (below last (e .name)) (rises (e .name) (g ++ rest)) h .1)
+      behind-last (at + entrySize k e) (found (placed k at e)) g rest (and-both (below last (e .name)) (rises (e .name) (g ++ rest)) h .1)
 
 -- entries that rise have the first name above the one before
 pub rises-first : (last : List ℕ) (g rest : List Stored) → 0 < length g → rises last (g ++ rest) ≡ true → below last (firstName g) ≡ true

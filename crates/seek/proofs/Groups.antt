@@ -73,7 +73,7 @@ from-entry limits k s d end (suc n) (suc j) at es h e =
 
 -- some entry, for places past the last
 abbrev other : Entry
-other = record { at = 0; start = 0; name = []; section = 0; offset = 0; size = 0; child = 0 }
+other = record { at = 0; start = 0; name = []; section = 0; offset = 0; size = 0; child = 0; next = 0 }
 
 module _ (limits : Limits) (k : Bool) (s : List ℕ) (es : List Entry) (good : Accepted limits k s es) where
   -- how many entries a group has; the last may have fewer

@@ -20,7 +20,7 @@ use Rattle.tree.specs.Demand.{GoodDirectory}
 
 -- an entry with a name, and a child
 abbrev to : List ℕ → ℕ → Entry
-to n c = record { at = 0; start = 0; name = n; section = 0; offset = 0; size = 0; child = c }
+to n c = record { at = 0; start = 0; name = n; section = 0; offset = 0; size = 0; child = c; next = 0 }
 
 abbrev entry : List ℕ → Entry
 entry n = to n 0

@@ -3,7 +3,7 @@
 use mathlib.Core.Path.{_≡_, refl, sym, ap, _∙_}
 use mathlib.Core.Logic.{_⊎_, inl, inr, ⊎-elim}
 use mathlib.Core.Bool.{Bool, true, false, not, _||_}
-use mathlib.Core.List.{List, [], _∷_, _++_, append-assoc, flatMap}
+use mathlib.Core.List.{List, [], _∷_, _++_, append-assoc, map, flatMap}
 use Prim.Native.Nat.{ℕ, zero, suc, _<_}
 use native.Mathlib.Omega.{arith}
 use lib.Dec.{eqb}
@@ -81,6 +81,10 @@ member-in n (x ∷ xs) h = onTest (eqb n x) (λ e. inl (eqb-true n x e)) (λ e. 
 -- ---- lists put together
 
 module _ {A B : Type 0} where
+  pub in-map : (f : A → B) (xs : List A) (x : A) → In x xs → In (f x) (map f xs)
+  in-map f (y ∷ xs) x (inl q) = inl (ap f q)
+  in-map f (y ∷ xs) x (inr m) = inr (in-map f xs x m)
+
   pub in-flat : (f : A → List B) (xs : List A) (x : A) (y : B) → In x xs → In y (f x) → In y (flatMap f xs)
   unfolding flatMap
   in-flat f (z ∷ zs) x y (inl e) m = in-left (f z) (flatMap f zs) y (rw e at m)

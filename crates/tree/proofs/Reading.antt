@@ -4,18 +4,22 @@
 use mathlib.Core.Path.{_≡_, refl, sym, ap, _∙_}
 use mathlib.Core.Logic.{_⊎_, inl, inr, ⊎-elim}
 use mathlib.Core.Bool.{Bool, true, false, cond, false≢true}
-use mathlib.Core.List.{List, [], _∷_, map, flatMap}
-use Prim.Native.Nat.{ℕ, zero, suc}
+use mathlib.Core.List.{List, [], _∷_, _++_, map, flatMap}
+use Prim.Native.Nat.{ℕ, zero, suc, _+_, _*_, _≤_}
+use native.Mathlib.Omega.{arith}
+use native.Mathlib.Nat.{mul-suc}
+use lib.Dec.{eqb}
+use lib.ListN.{length, length-append}
 use Rattle.fields.proofs.Tests.{never}
 use Rattle.names.specs.Names.{matches}
 use Rattle.chunk.specs.Chunk.{Entry, Parsed, entriesIn}
 use Rattle.tree.specs.Lists.{In}
 use Rattle.tree.specs.Shape.{Shape, noChunk, nextOf}
-use Rattle.tree.specs.Chain.{chainFrom, chain, linked, chainOk}
+use Rattle.tree.specs.Chain.{chainFrom, chain, linked, chainOk, entriesOf}
 use Rattle.tree.specs.Descent.{found, absent, refused, outcome}
 use Rattle.tree.specs.Demand.{GoodDirectory, Holds, PlainDemand}
 use Rattle.tree.specs.Reading.{Held, heldAt, heldIn, heldOf, readFrom, reading, firstEqual, plain}
-use Rattle.tree.proofs.Lists.{onTest, in-flat, flat-in}
+use Rattle.tree.proofs.Lists.{onTest, in-map, in-flat, flat-in}
 use Rattle.tree.proofs.Linked.{onLink, linked-chunk, chain-linked, chain-chunks}
 use Rattle.tree.proofs.Demanded.{demand-3}
 
@@ -37,10 +41,6 @@ module _ (D : ℕ → Parsed) (H : Shape) where
 
 -- ---- entries with their chunks
 
-in-held : (c : ℕ) (es : List Entry) (e : Entry) → In e es → In (heldAt c e) (map (heldAt c) es)
-in-held c (d ∷ es) e (inl q) = inl (ap (heldAt c) q)
-in-held c (d ∷ es) e (inr m) = inr (in-held c es e m)
-
 held-in : (c : ℕ) (es : List Entry) (h : Held) → In h (map (heldAt c) es) → (h .chunk ≡ c) × In (h .entry) es
 held-in c (d ∷ es) h (inl q) = (ap (λ (x : Held). x .chunk) q, inl (ap (λ (x : Held). x .entry) q))
 held-in c (d ∷ es) h (inr m) = let r = held-in c es h m in (r .0, inr (r .1))
@@ -53,7 +53,41 @@ module _ (D : ℕ → Parsed) where
       (rw (r .0) (f .1), rw (r .0) (r .1))
 
   pub chain-held : (cs : List ℕ) (c : ℕ) (e : Entry) → In c cs → In e (entriesIn (D c)) → In (heldAt c e) (heldOf D cs)
-  chain-held cs c e m k = in-flat (heldIn D) cs c (heldAt c e) m (in-held c (entriesIn (D c)) e k)
+  chain-held cs c e m k = in-flat (heldIn D) cs c (heldAt c e) m (in-map (heldAt c) (entriesIn (D c)) e k)
+
+-- entries without their chunks
+abbrev pub entryIn : Held → Entry
+entryIn h = h .entry
+
+map-held : (c : ℕ) (es : List Entry) (hs : List Held) → map entryIn (map (heldAt c) es ++ hs) ≡ es ++ map entryIn hs
+map-held c [] hs = refl
+map-held c (e ∷ es) hs = ap (λ (l : List Entry). e ∷ l) (map-held c es hs)
+
+pub held-entries : (D : ℕ → Parsed) (cs : List ℕ) → map entryIn (heldOf D cs) ≡ entriesOf D cs
+unfolding flatMap
+held-entries D [] = refl
+held-entries D (c ∷ cs) = map-held c (entriesIn (D c)) (heldOf D cs) ∙ ap (λ (l : List Entry). entriesIn (D c) ++ l) (held-entries D cs)
+
+-- ---- how many they are
+
+pub chain-short : (D : ℕ → Parsed) (n c : ℕ) → length (chainFrom D n c) ≤ n
+unfolding chainFrom
+chain-short D zero c = omega arith
+chain-short D (suc n) c =
+    onTest (eqb (nextOf (D c)) noChunk)
+    (λ e. rw e (omega arith))
+    (λ e. rw e (let i = chain-short D n (nextOf (D c)) in omega arith))
+
+-- m in each chunk at most
+pub entries-short : (D : ℕ → Parsed) (m : ℕ) (cs : List ℕ) → ((c : ℕ) → In c cs → length (entriesIn (D c)) ≤ m) → length (entriesOf D cs) ≤ m * length cs
+unfolding flatMap
+entries-short D m [] f = omega arith
+entries-short D m (c ∷ cs) f =
+    let i = entries-short D m cs (λ x k. f x (inr k)) in
+    let a = f c (inl refl) in
+    let l = length-append (entriesIn (D c)) (entriesOf D cs) in
+    let t : m * suc (length cs) ≡ m * length cs + m = mul-suc m (length cs) in
+    omega arith
 
 -- ---- the search
 

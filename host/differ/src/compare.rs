@@ -4,14 +4,15 @@
 mod batch;
 mod opened;
 mod order;
+mod sides;
 
 use crate::coverage::{self, Coverage};
 use crate::lent::Lent;
 use crate::library;
 use second::generate::{Call, Input};
 use second::{
-    chunk_entries, frames, lookup, open, part, scan, start, step, Answer, Cursor, Record, Refusal,
-    Reply, Report, Step, NONE,
+    chunk_entries, diff_frames, frames, lookup, open, part, scan, start, step, Answer, Cursor,
+    Record, Refusal, Reply, Report, Step, NONE,
 };
 
 /// What the library answers for no refusal, and where it has nothing to tell: an absent name, the
@@ -40,7 +41,7 @@ impl<'a> Asked<'a> {
     }
 
     /// Whether opening gives this record for these bytes.
-    fn gave(&self, record: &Record) -> bool {
+    pub fn gave(&self, record: &Record) -> bool {
         self.opening == Ok(*record)
     }
 }
@@ -381,7 +382,7 @@ impl Differ {
     }
 
     /// Counts an answer to a record that the bytes did not give.
-    fn count_made_up(
+    pub fn count_made_up(
         &mut self,
         group: &'static str,
         asked: &Asked,
@@ -555,33 +556,78 @@ impl Differ {
         }
     }
 
-    /// Compares what the program wrote for these bytes.
+    /// Compares what `list` wrote for these bytes.
     pub fn program(&mut self, file: &[u8], written: &str) -> Result<(), String> {
         self.comparisons += 1;
-        let number = match open(file) {
-            _ if file.len() > 60_000 => 29,
-            Ok(_) => 0,
-            Err(refusal) => refusal.number,
-        };
+        let number = refused_within(file, 60_000);
         self.coverage.count("list", coverage::number(number));
-        let expected = frames(file);
-        if expected == written {
-            return Ok(());
-        }
-        let lines = |text: &str| text.lines().map(str::to_owned).collect::<Vec<String>>();
-        let (expected, written) = (lines(&expected), lines(written));
-        let pairs = expected.iter().zip(&written);
-        let at = pairs.take_while(|(one, two)| one == two).count();
-        Err(format!(
-            "second: {} lines, line {}: {:?}\nlist: {} lines, line {}: {:?}",
-            expected.len(),
-            at + 1,
-            expected.get(at),
-            written.len(),
-            at + 1,
-            written.get(at)
-        ))
+        told_lines("list", &frames(file), written)
     }
+
+    /// Compares what `diff` wrote for these two files.
+    pub fn diff(&mut self, one: &[u8], two: &[u8], written: &str) -> Result<(), String> {
+        self.comparisons += 1;
+        let expected = diff_frames(one, two);
+        let numbers = (refused_within(one, 30_000), refused_within(two, 30_000));
+        let (group, name) = match numbers {
+            (0, 0) if expected.is_empty() => ("diff", "no frame"),
+            (0, 0) => ("diff", "frames"),
+            (0, number) => ("diff, the second book refused", coverage::number(number)),
+            (number, 0) => ("diff, the first book refused", coverage::number(number)),
+            (one, two) if one == two => ("diff", "both books refused alike"),
+            _ => ("diff", "both books refused"),
+        };
+        self.coverage.count(group, name);
+        self.count_file(one);
+        self.count_file(two);
+        for kind in ["01", "02", "03"] {
+            if expected.lines().any(|line| line.starts_with(kind)) {
+                self.coverage.count("frame of diff", kind);
+            }
+        }
+        told_lines("diff", &expected, written)
+    }
+
+    fn count_file(&mut self, file: &[u8]) {
+        const GROUP: &str = "file of diff";
+        match file.len() {
+            0 => self.coverage.count(GROUP, "of no bytes"),
+            29_999 => self.coverage.count(GROUP, "of 29,999 bytes"),
+            30_000 => self.coverage.count(GROUP, "of 30,000 bytes"),
+            30_001 => self.coverage.count(GROUP, "of 30,001 bytes"),
+            30_002.. => self.coverage.count(GROUP, "longer"),
+            _ => {}
+        }
+    }
+}
+
+/// The number by which a program refuses a book, 0 for none; it takes so many bytes at most.
+fn refused_within(file: &[u8], most: usize) -> u8 {
+    match open(file) {
+        _ if file.len() > most => 29,
+        Ok(_) => 0,
+        Err(refusal) => refusal.number,
+    }
+}
+
+/// Nothing, or the first line of a program's that differs.
+fn told_lines(program: &str, expected: &str, written: &str) -> Result<(), String> {
+    if expected == written {
+        return Ok(());
+    }
+    let lines = |text: &str| text.lines().map(str::to_owned).collect::<Vec<String>>();
+    let (expected, written) = (lines(expected), lines(written));
+    let pairs = expected.iter().zip(&written);
+    let at = pairs.take_while(|(one, two)| one == two).count();
+    Err(format!(
+        "second: {} lines, line {}: {:?}\n{program}: {} lines, line {}: {:?}",
+        expected.len(),
+        at + 1,
+        expected.get(at),
+        written.len(),
+        at + 1,
+        written.get(at)
+    ))
 }
 
 #[cfg(test)]

@@ -1,7 +1,7 @@
 //! What came up in a run, counted, and what has to come up in a complete one.
 
 use crate::library;
-use second::generate::{self, pairs};
+use second::generate::{self, comparison, pairs};
 use std::cmp::Ordering;
 use std::collections::BTreeMap;
 
@@ -40,6 +40,10 @@ const PROGRAM: &[&str] = &[
     "0", "1", "2", "3", "4", "5", "6", "7", "8", "9", "10", "11", "12", "13", "14", "29",
 ];
 
+const REFUSED: &[&str] = &[
+    "1", "2", "3", "4", "5", "6", "7", "8", "9", "10", "11", "12", "13", "14", "29",
+];
+
 const BATCH: &[&str] = &[
     "0", "1", "2", "3", "4", "5", "6", "7", "8", "9", "10", "11", "12", "13", "14", "22",
 ];
@@ -73,6 +77,40 @@ pub const RECORD: [&str; library::RECORD] = [
 /// The numbers of a cursor.
 pub const CURSOR: [&str; 2] = ["chunk of a cursor", "entry of a cursor"];
 
+/// The numbers of a made-up cursor of a comparison, as they are lent.
+pub const SIDES_CURSOR: [&str; 14] = [
+    "chunk of the first walk",
+    "place of the first walk",
+    "entries left of the first walk",
+    "next of the first walk",
+    "chunks to enter of the first walk",
+    "chunk of the second walk",
+    "place of the second walk",
+    "entries left of the second walk",
+    "next of the second walk",
+    "chunks to enter of the second walk",
+    "total only first of a cursor",
+    "total only second of a cursor",
+    "total same of a cursor",
+    "total changed of a cursor",
+];
+
+const WALK: &[&str] = &[
+    "entries left, in a listing chunk",
+    "entries left, in an index chunk",
+    "entries left, in no chunk",
+    "entries left, chunk not below the count",
+    "entries left, chunk outside the file",
+    "entries left, place 4,096",
+    "entries left, place behind 4,096",
+    "none follows, fewer chunks to enter than the count",
+    "none follows, as many chunks to enter as the count",
+    "none follows, more chunks to enter than the count",
+    "no chunk to enter",
+    "no chunk follows",
+    "a chunk follows",
+];
+
 /// Values that each number of a record and of a cursor has to have had.
 const EXTREMES: [(u64, &str); 5] = [
     (0, "0"),
@@ -95,6 +133,104 @@ const GROUPS: &[(&str, &[&str])] = &[
     ("part", &["inside", "of no bytes", "outside"]),
     ("write_head", &["0", "18", "19", "20"]),
     ("list", PROGRAM),
+    ("start of a comparison", &["0"]),
+    (
+        "step of a comparison",
+        &[
+            "only first",
+            "only second",
+            "changed",
+            "end",
+            "17, the first book",
+            "17, the second book",
+        ],
+    ),
+    (
+        "diff",
+        &[
+            "frames",
+            "no frame",
+            "both books refused",
+            "both books refused alike",
+        ],
+    ),
+    ("diff, the first book refused", REFUSED),
+    ("diff, the second book refused", REFUSED),
+    (
+        "arguments of diff",
+        &[
+            "both files",
+            "a third one",
+            "the first file twice",
+            "the first not there",
+            "the second not there",
+            "a folder for the first",
+            "a folder for the second",
+            "the first of no bytes",
+            "the first file alone",
+            "none",
+        ],
+    ),
+    ("frame of diff", &["01", "02", "03"]),
+    (
+        "file of diff",
+        &[
+            "of no bytes",
+            "of 29,999 bytes",
+            "of 30,000 bytes",
+            "of 30,001 bytes",
+            "longer",
+        ],
+    ),
+    (
+        "names that a step goes over",
+        &["none", "1 name", "2 to 99 names", "100 names or more"],
+    ),
+    (
+        "walk behind a step",
+        &[
+            "taken, in a chunk that was entered",
+            "taken, in the same chunk",
+            "not taken, in a chunk that was entered",
+            "not taken, in the same chunk",
+            "at the end",
+        ],
+    ),
+    (
+        "total that wraps",
+        &["only first", "only second", "same", "changed"],
+    ),
+    ("first walk of a made-up cursor", WALK),
+    ("second walk of a made-up cursor", WALK),
+    ("comparison with a record of no book", ASKING),
+    (
+        "two books that open",
+        &[
+            "the same bytes",
+            "chains numbered alike",
+            "chains numbered apart",
+            "one entry in the first",
+            "one entry in the second",
+            "a name in another case, the same",
+            "no difference",
+            "no common name",
+            "all names changed",
+            "the same names, some changed",
+            "names only in the first",
+            "names only in the second",
+            "names only in the first and only in the second",
+        ],
+    ),
+    (
+        "name that is changed",
+        &[
+            "another section alone",
+            "another offset alone",
+            "another length alone",
+            "several numbers",
+            "in another case",
+        ],
+    ),
     ("the earlier of two damages", DAMAGE),
     (
         "trail",
@@ -341,14 +477,23 @@ impl Coverage {
         let answers = GROUPS
             .iter()
             .flat_map(|(group, names)| names.iter().map(move |name| (*group, *name)));
-        let numbers = RECORD.iter().chain(&CURSOR);
+        let numbers = RECORD.iter().chain(&CURSOR).chain(&SIDES_CURSOR);
         let extremes = numbers.flat_map(|group| EXTREMES.map(|(_, name)| (*group, name)));
         let ways = pairs::WAYS.iter().flat_map(|way| {
             let orders = way.orders.iter();
             orders.map(move |&order| (way.label, order_name(order)))
         });
         let cases = generate::labels().into_iter().map(|label| ("case", label));
-        let order: Vec<_> = answers.chain(extremes).chain(ways).chain(cases).collect();
+        let groups = [
+            ("compared books", comparison::labels()),
+            ("made-up cursor", comparison::cursor_labels()),
+            ("files of diff", comparison::file_labels()),
+        ];
+        let sides = groups
+            .into_iter()
+            .flat_map(|(group, labels)| labels.into_iter().map(move |label| (group, label)));
+        let order = answers.chain(extremes).chain(ways).chain(cases);
+        let order: Vec<_> = order.chain(sides).collect();
         Coverage {
             counts: order.iter().map(|&key| (key, 0)).collect(),
             order,

@@ -1,11 +1,13 @@
-//! The static library and the program `list`, compared with the second implementation over seeded
+//! The static library and the programs `list` and `diff`, compared with the second implementation over seeded
 //! cases. A seed and a number make a case again.
 
 #![deny(unsafe_code)]
 
 mod batches;
 mod compare;
+mod course;
 mod coverage;
+mod diff;
 mod features;
 mod lent;
 #[allow(unsafe_code)]
@@ -14,23 +16,28 @@ mod library;
 mod pairs;
 mod program;
 mod run;
+mod sides;
 
 use compare::Differ;
+use program::Programs;
 use std::env;
 use std::ops::Range;
 use std::panic::{catch_unwind, AssertUnwindSafe};
-use std::path::PathBuf;
+use std::path::{Path, PathBuf};
 use std::process::ExitCode;
 use std::time::{Duration, Instant};
 
-const USAGE: &str = "differ --seed S (--cases N | --seconds T | --case I) [--covered] [--list PATH]
+const USAGE: &str =
+    "differ --seed S (--cases N | --seconds T | --case I) [--covered] [--list PATH] [--diff PATH]
   --cases N    the cases 0 to N - 1 of this seed
   --seconds T  as many of them as T seconds allow
   --case I     one of them
   --covered    fails also if something never came up
-  --list PATH  this program instead of target/bin/list";
+  --list PATH  this program instead of target/bin/list
+  --diff PATH  this program instead of target/bin/diff";
 
 const LIST: &str = concat!(env!("CARGO_MANIFEST_DIR"), "/../../target/bin/list");
+const DIFF: &str = concat!(env!("CARGO_MANIFEST_DIR"), "/../../target/bin/diff");
 
 /// How much is asked for.
 enum Extent {
@@ -61,12 +68,13 @@ struct Options {
     extent: Extent,
     covered: bool,
     list: PathBuf,
+    diff: PathBuf,
 }
 
 /// The options, or nothing if they are not as in the usage.
 fn options(mut words: impl Iterator<Item = String>) -> Option<Options> {
     let (mut seed, mut extent, mut covered) = (None, None, false);
-    let mut list = PathBuf::from(LIST);
+    let (mut list, mut diff) = (PathBuf::from(LIST), PathBuf::from(DIFF));
     while let Some(word) = words.next() {
         let mut number = || words.next()?.parse().ok();
         match word.as_str() {
@@ -76,6 +84,7 @@ fn options(mut words: impl Iterator<Item = String>) -> Option<Options> {
             "--case" => extent = Some(Extent::Case(number()?)),
             "--covered" => covered = true,
             "--list" => list = words.next()?.into(),
+            "--diff" => diff = words.next()?.into(),
             _ => return None,
         }
     }
@@ -84,6 +93,7 @@ fn options(mut words: impl Iterator<Item = String>) -> Option<Options> {
         extent: extent?,
         covered,
         list,
+        diff,
     })
 }
 
@@ -95,21 +105,37 @@ fn main() -> ExitCode {
             return ExitCode::from(2);
         }
     };
-    if !options.list.is_file() {
-        let list = options.list.display();
-        eprintln!("no program {list}: `rt check list` makes it");
-        return ExitCode::from(2);
-    }
+    let programs = match programs(&options) {
+        Ok(programs) => programs,
+        Err(reason) => {
+            eprintln!("{reason}");
+            return ExitCode::from(2);
+        }
+    };
     println!("seed {}", options.seed);
-    if compared(&options) {
+    if compared(&options, &programs) {
         ExitCode::SUCCESS
     } else {
         ExitCode::FAILURE
     }
 }
 
+/// Both programs, or why they cannot be run.
+fn programs(options: &Options) -> Result<Programs, String> {
+    let there = |path: &Path, name: &str| match path.is_file() {
+        true => Ok(path.to_owned()),
+        false => {
+            let path = path.display();
+            Err(format!("no program {path}: `rt check {name}` makes it"))
+        }
+    };
+    let list = there(&options.list, "list")?;
+    let diff = there(&options.diff, "diff")?;
+    Programs::new(list, diff).map_err(|error| format!("no folder for files: {error}"))
+}
+
 /// Whether all answers agree and, if that is asked for, everything came up.
-fn compared(options: &Options) -> bool {
+fn compared(options: &Options, programs: &Programs) -> bool {
     let mut differ = Differ::new();
     let started = Instant::now();
     let mut cases = 0;
@@ -117,7 +143,7 @@ fn compared(options: &Options) -> bool {
         if options.extent.is_over(started) {
             break;
         }
-        if !agrees(&mut differ, options, index) {
+        if !agrees(&mut differ, programs, options.seed, index) {
             return false;
         }
         cases += 1;
@@ -148,9 +174,8 @@ fn compared(options: &Options) -> bool {
 }
 
 /// Compares one case and tells what differs.
-fn agrees(differ: &mut Differ, options: &Options, index: u64) -> bool {
-    let seed = options.seed;
-    let run = || run::run(differ, &options.list, seed, index);
+fn agrees(differ: &mut Differ, programs: &Programs, seed: u64, index: u64) -> bool {
+    let run = || run::run(differ, programs, seed, index);
     match catch_unwind(AssertUnwindSafe(run)) {
         Ok(Ok(())) => true,
         Ok(Err(difference)) => {

@@ -1,14 +1,14 @@
 //! A case: what it asks, more questions about the same bytes, and what a written head reads like.
 
 use crate::compare::{Asked, Differ};
-use crate::{coverage, features, program};
+use crate::program::Programs;
+use crate::{course, coverage, diff, features};
 use second::generate::pairs::{pairs, Pair};
 use second::generate::questions::{about, names_in, questions};
 use second::generate::{self, Aim, Call, Case, Input, Random};
 use second::{chunk_entries, entry_bytes, Record, NONE};
-use std::path::Path;
 
-/// The program is run on the file of every so many cases.
+/// The program `list` is run on the file of every so many cases.
 const PROGRAM_RUNS: u64 = 32;
 
 /// Changes the seed for the pairs of names.
@@ -27,7 +27,19 @@ pub struct Difference {
 }
 
 /// Compares all that this case brings with it.
-pub fn run(differ: &mut Differ, list: &Path, seed: u64, index: u64) -> Result<(), Difference> {
+pub fn run(
+    differ: &mut Differ,
+    programs: &Programs,
+    seed: u64,
+    index: u64,
+) -> Result<(), Difference> {
+    ask(differ, programs, seed, index)?;
+    course::run(differ, seed, index)?;
+    diff::run(differ, programs, seed, index)
+}
+
+/// Compares all that is about the file of the case, or the input of its writer.
+fn ask(differ: &mut Differ, programs: &Programs, seed: u64, index: u64) -> Result<(), Difference> {
     let case = generate::case(seed, index);
     differ.coverage.count("case", case.label);
     // Another stream than that of the case, so that neither depends on what the other draws.
@@ -54,11 +66,7 @@ pub fn run(differ: &mut Differ, list: &Path, seed: u64, index: u64) -> Result<()
         read_back(differ, random, input)
             .map_err(|answers| failed(shown(&[], &case.call), answers))?;
     } else if runs_program(&case, index) {
-        let asked = format!("list with {} bytes", case.file.len());
-        let written = program::run(list, &case.file)
-            .map_err(|error| failed(asked.clone(), error.to_string()))?;
-        let told = differ.program(&case.file, &written);
-        told.map_err(|answers| failed(asked, answers))?;
+        list(differ, programs, &case.file).map_err(|(asked, answers)| failed(asked, answers))?;
     }
     put_in_order(differ, seed, index, &case.file)
         .map_err(|(asked, answers)| failed(asked, answers))?;
@@ -67,6 +75,13 @@ pub fn run(differ: &mut Differ, list: &Path, seed: u64, index: u64) -> Result<()
         features::count(&mut differ.coverage, &case.file, record);
     }
     Ok(())
+}
+
+/// Runs `list` on a file; what was asked and the answers where they differ.
+fn list(differ: &mut Differ, programs: &Programs, file: &[u8]) -> Result<(), (String, String)> {
+    let written = programs.list(file).map_err(|error| error.to_string());
+    let told = written.and_then(|written| differ.program(file, &written));
+    told.map_err(|answers| (format!("list with {} bytes", file.len()), answers))
 }
 
 /// Both may be wrong alike: what the case was made for has to come of it.

@@ -6,6 +6,7 @@ use crate::args::{flag, Given, Spec};
 use crate::input;
 use crate::output::Output;
 use crate::status::{Status, Trouble};
+use crate::text::many;
 
 pub const OPTIONS: [Spec; 1] = [flag("quiet", Some('q'))];
 
@@ -41,8 +42,4 @@ fn check(path: &OsStr) -> Result<String, Trouble> {
         record.depth,
         many(bytes.len() as u64 - record.content_start, "byte", "bytes")
     ))
-}
-
-fn many(n: u64, one: &str, several: &str) -> String {
-    format!("{n} {}", if n == 1 { one } else { several })
 }

@@ -3,13 +3,14 @@
 pub const HODS: &str = "\
 Usage: hods COMMAND [OPTION].. [ARGUMENT]..
 
-Checks, lists, searches and writes compiled HTML Help books (CHM).
+Checks, lists, searches, compares and writes compiled HTML Help books (CHM).
 
 Commands:
   check BOOK..           whether books keep every rule
   list BOOK              the entries of a book
   find BOOK NAME..       where names stand, or that they are absent
   cat BOOK NAME          the stored bytes of an entry of section 0
+  compare OLD NEW        which entries two issues of a book do not share
   write -o BOOK DIR      a new book of the files in a folder, or of a list
 
 Options of every command:
@@ -17,10 +18,11 @@ Options of every command:
   -V, --version          the version
   --                     what follows is no option
 
-BOOK may be -, standard input. hods COMMAND --help says more.
+BOOK may be -, standard input, and so may one of OLD and NEW.
+hods COMMAND --help says more.
 
-Exit status: 0 good; 1 a rule refused something, or a name is absent; 2 wrong
-usage, or something could not be read or written.
+Exit status: 0 good; 1 a rule refused something, a name is absent, or two books
+differ; 2 wrong usage, or something could not be read or written.
 ";
 
 pub const CHECK: &str = "\
@@ -66,6 +68,23 @@ Usage: hods cat BOOK NAME
 
 Writes the bytes of an entry to standard output. Only entries of section 0 are
 stored as they are; of other sections this says so.
+";
+
+pub const COMPARE: &str = "\
+Usage: hods compare [--json | -q] [--html FILE [-f]] OLD NEW
+
+Lays two books side by side, entry against entry, and prints in the order of
+names: with - an entry that only OLD has, with + one that only NEW has, with ~
+one whose section, offset or length changed, and from what to what; at the end
+how many there are of each, and how many are the same. The letters A to Z and a
+to z are the same in a name. The exit status is 1 where the books differ.
+
+      --json             an object with the totals and an array of differences,
+                         each with kind, old and new, entries as of hods list
+  -q, --quiet            print nothing: the exit status alone tells
+      --html FILE        write a page that shows the differences side by side,
+                         and print no more than how many there are
+  -f, --force            replace a page that is there
 ";
 
 pub const WRITE: &str = "\

@@ -77,7 +77,8 @@ fn columns(book: &Book, out: &mut Output) -> Result<(), Trouble> {
     })
 }
 
-fn numbers(entry: &Entry) -> [u64; 3] {
+/// Section, offset, length.
+pub fn numbers(entry: &Entry) -> [u64; 3] {
     [entry.section().into(), entry.offset(), entry.length()]
 }
 
@@ -106,7 +107,8 @@ fn json(book: &Book, out: &mut Output) -> Result<(), Trouble> {
     out.line("\n]")
 }
 
-fn json_entry(entry: &Entry) -> String {
+/// An entry as an object; a name that is not UTF-8 is null, with its bytes beside it.
+pub fn json_entry(entry: &Entry) -> String {
     let name = match std::str::from_utf8(entry.name()) {
         Ok(name) => json_string(name),
         Err(_) => format!("null,\"name_hex\":\"{}\"", hex(entry.name())),

@@ -1,10 +1,11 @@
-//! hods: checks, lists, searches and writes compiled HTML Help books. See hods.1.
+//! hods: checks, lists, searches, compares and writes compiled HTML Help books. See hods.1.
 
 #![forbid(unsafe_code)]
 
 mod args;
 mod cat;
 mod check;
+mod compare;
 mod find;
 mod finding;
 mod help;
@@ -13,6 +14,7 @@ mod list;
 mod names;
 mod newfile;
 mod output;
+mod page;
 mod progress;
 mod source;
 mod status;
@@ -34,7 +36,7 @@ struct Command {
     run: fn(&Given, &mut Output) -> Result<Status, Trouble>,
 }
 
-const COMMANDS: [Command; 5] = [
+const COMMANDS: [Command; 6] = [
     Command {
         name: "check",
         help: help::CHECK,
@@ -58,6 +60,12 @@ const COMMANDS: [Command; 5] = [
         help: help::CAT,
         options: &cat::OPTIONS,
         run: cat::run,
+    },
+    Command {
+        name: "compare",
+        help: help::COMPARE,
+        options: &compare::OPTIONS,
+        run: compare::run,
     },
     Command {
         name: "write",

@@ -1,9 +1,37 @@
 //! A file that is there whole or not at all.
 
+use std::ffi::OsStr;
 use std::fs::{self, File, OpenOptions};
 use std::io::{self, BufWriter, ErrorKind, Write};
 use std::path::{Path, PathBuf};
 use std::process;
+
+use crate::status::Trouble;
+use crate::text::shown_path;
+
+/// Where a new file goes, as an option says. It is looked at first, since the rest may take long. The new file takes the place of the old one by a rename, so
+/// a device, a pipe or a link there would be lost: force is for files.
+pub fn target<'a>(option: &str, path: &'a OsStr, force: bool) -> Result<&'a Path, Trouble> {
+    if path == "-" || path.is_empty() {
+        let why = format!("{option} takes the name of a file");
+        return Err(Trouble::usage(why));
+    }
+    let path = Path::new(path);
+    match fs::symlink_metadata(path) {
+        Ok(about) if !about.is_file() => {
+            let why =
+                "it is there already and is no regular file, and only such a one can be replaced";
+            Err(Trouble::failed(&shown_path(path.as_os_str()), why))
+        }
+        Ok(_) if !force => Err(exists(path)),
+        _ => Ok(path),
+    }
+}
+
+fn exists(path: &Path) -> Trouble {
+    let why = "it is there already, and only --force replaces it";
+    Trouble::failed(&shown_path(path.as_os_str()), why)
+}
 
 /// A file that is written beside its target and takes its place at the end. Dropped before, it is removed.
 pub struct NewFile {
@@ -13,12 +41,12 @@ pub struct NewFile {
 }
 
 impl NewFile {
-    pub fn create(target: &Path) -> io::Result<NewFile> {
+    pub fn create(target: &Path) -> Result<NewFile, Trouble> {
         let folder = match target.parent() {
             Some(folder) if !folder.as_os_str().is_empty() => folder,
             _ => Path::new("."),
         };
-        let (file, beside) = create_beside(folder)?;
+        let (file, beside) = create_beside(folder).map_err(|error| trouble(target, &error))?;
         Ok(NewFile {
             file: BufWriter::with_capacity(1 << 16, file),
             beside,
@@ -26,12 +54,20 @@ impl NewFile {
         })
     }
 
-    pub fn write(&mut self, bytes: &[u8]) -> io::Result<()> {
-        self.file.write_all(bytes)
+    pub fn write(&mut self, bytes: &[u8]) -> Result<(), Trouble> {
+        let done = self.file.write_all(bytes);
+        done.map_err(|error| trouble(&self.target, &error))
     }
 
     /// Puts the file in its place. What stands there is replaced only by force.
-    pub fn finish(mut self, force: bool) -> io::Result<()> {
+    pub fn finish(mut self, force: bool) -> Result<(), Trouble> {
+        self.place(force).map_err(|error| match error.kind() {
+            ErrorKind::AlreadyExists => exists(&self.target),
+            _ => trouble(&self.target, &error),
+        })
+    }
+
+    fn place(&mut self, force: bool) -> io::Result<()> {
         self.file.flush()?;
         self.file.get_ref().sync_all()?;
         if force {
@@ -57,6 +93,10 @@ impl Drop for NewFile {
     fn drop(&mut self) {
         let _ = fs::remove_file(&self.beside);
     }
+}
+
+fn trouble(target: &Path, error: &io::Error) -> Trouble {
+    Trouble::io(&shown_path(target.as_os_str()), error)
 }
 
 /// A new file with a name that no other has.

@@ -9,14 +9,14 @@ use hodsplinter::Refusal;
 #[derive(Clone, Copy, Debug, PartialEq, Eq, PartialOrd, Ord)]
 pub enum Status {
     Good = 0,
-    /// A rule of docs/FORMAT.md refused something, or a name is absent.
+    /// A rule of docs/FORMAT.md refused something, a name is absent, or two books differ.
     Refused = 1,
     /// Wrong usage, or something could not be read or written.
     Failed = 2,
 }
 
 /// Why there is no result: one message for standard error.
-#[derive(Debug)]
+#[derive(Clone, Debug)]
 pub struct Trouble {
     pub status: Status,
     /// The refusal of a book, for the frames.

@@ -108,6 +108,11 @@ fn escaped(text: &[u8]) -> Option<(u8, usize)> {
     }
 }
 
+/// A number of things, with the word for one of them or for several.
+pub fn many(n: u64, one: &str, several: &str) -> String {
+    format!("{n} {}", if n == 1 { one } else { several })
+}
+
 /// Two digits a byte, nothing between.
 pub fn hex(bytes: &[u8]) -> String {
     let mut text = String::with_capacity(2 * bytes.len());
@@ -121,6 +126,22 @@ pub fn hex(bytes: &[u8]) -> String {
 pub fn spaced_hex(bytes: &[u8]) -> String {
     let digits: Vec<String> = bytes.iter().map(|b| format!("{b:02X}")).collect();
     digits.join(" ")
+}
+
+/// Text for HTML, between tags and in a quoted attribute.
+pub fn html(text: &str) -> String {
+    let mut html = String::with_capacity(text.len());
+    for c in text.chars() {
+        match c {
+            '&' => html.push_str("&amp;"),
+            '<' => html.push_str("&lt;"),
+            '>' => html.push_str("&gt;"),
+            '"' => html.push_str("&quot;"),
+            '\'' => html.push_str("&#39;"),
+            _ => html.push(c),
+        }
+    }
+    html
 }
 
 /// A string of JSON, quotes and all; what does not print is escaped.
@@ -181,6 +202,12 @@ mod tests {
         for text in ["\\", "\\n", "\\x", "\\x4", "\\x4g", "a\\ "] {
             assert!(read_name(text.as_bytes()).is_err(), "{text}");
         }
+    }
+
+    #[test]
+    fn html_text() {
+        let (text, want) = ("<b a=\"'&amp;é", "&lt;b a=&quot;&#39;&amp;amp;é");
+        assert_eq!(html(text), want);
     }
 
     #[test]

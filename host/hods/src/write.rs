@@ -1,7 +1,7 @@
 //! `hods write`: a new book.
 
 use std::ffi::OsStr;
-use std::fs::{self, File};
+use std::fs::File;
 use std::io::{ErrorKind, Read};
 use std::path::Path;
 
@@ -9,7 +9,7 @@ use hodsplinter::{write_head, Options};
 
 use crate::args::{flag, valued, Given, Spec};
 use crate::finding;
-use crate::newfile::NewFile;
+use crate::newfile::{self, NewFile};
 use crate::output::Output;
 use crate::progress::Progress;
 use crate::source::{self, Content, Source};
@@ -44,30 +44,12 @@ pub fn run(given: &Given, _: &mut Output) -> Result<Status, Trouble> {
     Ok(Status::Good)
 }
 
-/// Where the book goes. It is looked at first, since the rest may take long. The new file takes the place of the old one by a rename, so a device, a pipe
-/// or a link there would be lost: force is for files.
+/// Where the book goes.
 fn target(given: &Given) -> Result<&Path, Trouble> {
-    let path = match given.value("output") {
-        None => return Err(Trouble::usage("write: -o BOOK is missing")),
-        Some(path) if path == "-" || path.is_empty() => {
-            return Err(Trouble::usage("write: -o takes the name of a file"))
-        }
-        Some(path) => Path::new(path),
-    };
-    match fs::symlink_metadata(path) {
-        Ok(about) if !about.is_file() => {
-            let why =
-                "it is there already and is no regular file, and only such a one can be replaced";
-            Err(Trouble::failed(&shown_path(path.as_os_str()), why))
-        }
-        Ok(_) if !given.has("force") => Err(exists(path)),
-        _ => Ok(path),
+    match given.value("output") {
+        None => Err(Trouble::usage("write: -o BOOK is missing")),
+        Some(path) => newfile::target("write: -o", path, given.has("force")),
     }
-}
-
-fn exists(path: &Path) -> Trouble {
-    let why = "it is there already, and only --force replaces it";
-    Trouble::failed(&shown_path(path.as_os_str()), why)
 }
 
 fn numbers(given: &Given) -> Result<Options, Trouble> {
@@ -100,28 +82,24 @@ fn source(given: &Given, target: &Path) -> Result<Source, Trouble> {
 }
 
 fn write_book(target: &Path, head: &[u8], content: &Content, force: bool) -> Result<(), Trouble> {
-    let name = shown_path(target.as_os_str());
-    let trouble = |error| Trouble::io(&name, &error);
-    let mut book = NewFile::create(target).map_err(trouble)?;
-    book.write(head).map_err(trouble)?;
+    let mut book = NewFile::create(target)?;
+    book.write(head)?;
     match content {
-        Content::Bytes(bytes) => book.write(bytes).map_err(trouble)?,
+        Content::Bytes(bytes) => book.write(bytes)?,
         Content::Files(files) => {
-            let mut progress = Progress::new(format!("writing {name}"), content.length());
+            let what = format!("writing {}", shown_path(target.as_os_str()));
+            let mut progress = Progress::new(what, content.length());
             let mut piece = vec![0; PIECE];
             for (path, length) in files {
                 let mut file = Stored::open(path.as_os_str(), *length)?;
                 while let Some(got) = file.read(&mut piece)? {
-                    book.write(got).map_err(trouble)?;
+                    book.write(got)?;
                     progress.add(got.len());
                 }
             }
         }
     }
-    book.finish(force).map_err(|error| match error.kind() {
-        ErrorKind::AlreadyExists => exists(target),
-        _ => trouble(error),
-    })
+    book.finish(force)
 }
 
 /// A file to be stored, which must keep the length that the head was told.

@@ -62,6 +62,18 @@ extern "C" {
         numbers: usize,
         next: *mut u64,
     ) -> u64;
+    fn hods_compare_start(one: *const u64, two: *const u64, cursor: *mut u64) -> u64;
+    fn hods_compare_step(
+        file1: *const u8,
+        len1: usize,
+        one: *const u64,
+        file2: *const u8,
+        len2: usize,
+        two: *const u64,
+        cursor: *mut u64,
+        difference: *mut u64,
+        totals: *mut u64,
+    ) -> u64;
     fn hods_part(file: *const u8, len: usize, place: u64, length: u64) -> u64;
     fn hods_write_head(
         entries: *const u8,
@@ -189,6 +201,32 @@ pub fn chunk(
             entries.as_mut_ptr(),
             entries.len(),
             next.as_mut_ptr(),
+        )
+    }
+}
+
+pub fn compare_start(one: &[u64; RECORD], two: &[u64; RECORD], cursor: &mut [u64; 14]) -> u64 {
+    unsafe { hods_compare_start(one.as_ptr(), two.as_ptr(), cursor.as_mut_ptr()) }
+}
+
+pub fn compare_step(
+    (file1, one): (&[u8], &[u64; RECORD]),
+    (file2, two): (&[u8], &[u64; RECORD]),
+    cursor: &mut [u64; 14],
+    difference: &mut [u64; 15],
+    totals: &mut [u64; 4],
+) -> u64 {
+    unsafe {
+        hods_compare_step(
+            file1.as_ptr(),
+            file1.len(),
+            one.as_ptr(),
+            file2.as_ptr(),
+            file2.len(),
+            two.as_ptr(),
+            cursor.as_mut_ptr(),
+            difference.as_mut_ptr(),
+            totals.as_mut_ptr(),
         )
     }
 }

@@ -121,7 +121,7 @@ const MEANINGS: [(&str, &str); 22] = [
     ("", "the asked name has 0 bytes, or more than 1,024"),
     ("", "the trail has fewer than 5 places"),
     (
-        "K12, K13, K19",
+        "K12, K13, K19, X4, X5",
         "the record is bad, or a chunk or an entry that is met",
     ),
     (

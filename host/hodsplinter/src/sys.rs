@@ -10,6 +10,15 @@ pub const ENTRY: usize = 5;
 /// Places of a trail that are always enough.
 pub const TRAIL: usize = 5;
 
+/// How many numbers the cursor of a comparison has: two walks of five, four totals.
+pub const COMPARISON: usize = 14;
+
+/// How many numbers a comparison tells of an entry: those of `ENTRY`, then place and length of its own bytes.
+pub const COMPARED: usize = 7;
+
+/// How many numbers a difference has: its kind, and those of two entries.
+pub const DIFFERENCE: usize = 1 + 2 * COMPARED;
+
 /// What a function answered: true for 0, false for 255 (absent, at the end, too few places), else the refusal.
 pub type Told = Result<bool, Refusal>;
 
@@ -77,6 +86,24 @@ pub fn chunk(
     next: &mut [u64; 2],
 ) -> Told {
     told(raw::chunk(file, record, chunk, entries, next))
+}
+
+pub fn compare_start(
+    one: &[u64; RECORD],
+    two: &[u64; RECORD],
+    cursor: &mut [u64; COMPARISON],
+) -> Told {
+    told(raw::compare_start(one, two, cursor))
+}
+
+pub fn compare_step(
+    one: (&[u8], &[u64; RECORD]),
+    two: (&[u8], &[u64; RECORD]),
+    cursor: &mut [u64; COMPARISON],
+    difference: &mut [u64; DIFFERENCE],
+    totals: &mut [u64; 4],
+) -> Told {
+    told(raw::compare_step(one, two, cursor, difference, totals))
 }
 
 pub fn part(file: &[u8], place: u64, length: u64) -> u64 {

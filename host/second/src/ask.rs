@@ -157,14 +157,14 @@ pub fn part(file: &[u8], place: u64, length: u64) -> &[u8] {
 }
 
 /// Bytes and a record that is not bad (FORMAT K12).
-struct Asked<'a> {
+pub(crate) struct Asked<'a> {
     file: &'a [u8],
     start: u64,
-    limits: Limits,
+    pub limits: Limits,
 }
 
 impl<'a> Asked<'a> {
-    fn new(file: &'a [u8], record: &Record) -> Result<Asked<'a>, Refusal> {
+    pub fn new(file: &'a [u8], record: &Record) -> Result<Asked<'a>, Refusal> {
         require_record(file, record)?;
         Ok(Asked {
             file,
@@ -178,21 +178,25 @@ impl<'a> Asked<'a> {
     }
 
     /// Where a chunk starts, exactly (FORMAT D19).
-    fn place(&self, number: u64) -> u128 {
+    pub fn place(&self, number: u64) -> u128 {
         u128::from(self.start) + DIRECTORY_HEADER as u128 + CHUNK as u128 * u128::from(number)
+    }
+
+    /// The bytes of a chunk that lies inside the file, whatever its number is.
+    pub fn chunk_bytes(&self, number: u64) -> Option<&'a [u8]> {
+        let place = self.place(number);
+        let end = place + CHUNK as u128;
+        (end <= self.file.len() as u128).then(|| &self.file[place as usize..end as usize])
     }
 
     /// A chunk, checked whole before anything is answered from it (FORMAT K13, K14).
     fn meet(&self, number: u64) -> Result<Chunk<'a>, Refusal> {
-        let place = self.place(number);
-        let end = place + CHUNK as u128;
-        let inside = number < self.limits.count && end <= self.file.len() as u128;
-        require(inside, 17)?;
-        let bytes = &self.file[place as usize..end as usize];
+        require(number < self.limits.count, 17)?;
+        let bytes = self.chunk_bytes(number).ok_or(Refusal::new(17))?;
         read_chunk(bytes, &self.limits).map_err(|_| Refusal::new(17))
     }
 
-    fn meet_listing(&self, number: u64) -> Result<(Vec<Entry<'a, Stored>>, u32), Refusal> {
+    pub fn meet_listing(&self, number: u64) -> Result<(Vec<Entry<'a, Stored>>, u32), Refusal> {
         match self.meet(number)? {
             Chunk::Listing { entries, next, .. } => Ok((entries, next)),
             Chunk::Index { .. } => Err(Refusal::new(17)),

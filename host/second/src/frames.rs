@@ -1,19 +1,45 @@
-//! What the program writes for its input (FORMAT, Program).
+//! What the programs write for their input (FORMAT, Programs).
 
 use crate::number::encint;
-use crate::{chunk_entries, open, part, Record, Refusal, Report};
+use crate::{chunk_entries, compare_start, compare_step, open, part, require};
+use crate::{Compared, Difference, Listed, Record, Refusal, Report, Side};
 
-/// One line for each entry of the book, or one for the refusal.
+/// What `list` writes: one line for each entry of the book, or one for the refusal.
 pub fn frames(input: &[u8]) -> String {
-    let lines = if input.len() > 60_000 {
-        vec![refusal_frame(Refusal::new(29))]
-    } else {
-        match open(input) {
-            Ok(record) => entry_frames(input, &record),
-            Err(refusal) => vec![refusal_frame(refusal)],
-        }
-    };
-    lines.iter().map(|line| hexadecimal(line) + "\n").collect()
+    lines(match open_within(input, 60_000) {
+        Ok(record) => entry_frames(input, &record),
+        Err(refusal) => vec![refusal_frame(refusal)],
+    })
+}
+
+/// What `diff` writes for two files: one line for each difference, or one for the refusal.
+pub fn diff_frames(one: &[u8], two: &[u8]) -> String {
+    let opened = |file| open_within(file, 30_000);
+    let records = opened(one).and_then(|first| Ok((first, opened(two)?)));
+    lines(match records {
+        Ok((first, second)) => difference_frames(
+            Side {
+                file: one,
+                record: &first,
+            },
+            Side {
+                file: two,
+                record: &second,
+            },
+        ),
+        Err(refusal) => vec![refusal_frame(refusal)],
+    })
+}
+
+/// Opens a book of so many bytes at most (FORMAT R29).
+fn open_within(file: &[u8], most: usize) -> Result<Record, Refusal> {
+    require(file.len() <= most, 29)?;
+    open(file)
+}
+
+fn lines(frames: Vec<Vec<u8>>) -> String {
+    let line = |frame: &Vec<u8>| hexadecimal(frame) + "\n";
+    frames.iter().map(line).collect()
 }
 
 fn refusal_frame(refusal: Refusal) -> Vec<u8> {
@@ -29,6 +55,24 @@ fn entry_frames(file: &[u8], record: &Record) -> Vec<Vec<u8>> {
     while let Ok((reports, next)) = chunk_entries(file, record, chunk) {
         frames.extend(reports.iter().map(|report| entry_bytes(file, report)));
         chunk = u64::from(next);
+    }
+    frames
+}
+
+/// The differences in their order (FORMAT P8). Both books have been opened, so no step is refused.
+fn difference_frames(one: Side, two: Side) -> Vec<Vec<u8>> {
+    let own = |side: Side, listed: &Listed| part(side.file, listed.place, listed.length).to_vec();
+    let mut frames = Vec::new();
+    let mut progress = compare_start(one.record, two.record);
+    while let Compared::Difference(difference, behind) = compare_step(one, two, &progress) {
+        frames.push(match &difference {
+            Difference::OnlyFirst(first) => [vec![1], own(one, first)].concat(),
+            Difference::OnlySecond(second) => [vec![2], own(two, second)].concat(),
+            Difference::Changed(first, second) => {
+                [vec![3], own(one, first), own(two, second)].concat()
+            }
+        });
+        progress = behind;
     }
     frames
 }

@@ -6,6 +6,7 @@
 
 pub mod ask;
 pub mod book;
+pub mod comparison;
 pub mod damage;
 pub mod large;
 pub mod names;

@@ -10,6 +10,7 @@
 mod ask;
 mod batch;
 mod chunk;
+mod comparison;
 mod frames;
 pub mod generate;
 mod name;
@@ -21,7 +22,10 @@ mod write;
 pub use ask::{chunk_entries, lookup, part, scan, start, step};
 pub use batch::{batch, batch_after, batch_names, ANSWER};
 pub use chunk::quick_words;
-pub use frames::{entry_bytes, frames};
+pub use comparison::{
+    compare_start, compare_step, Compared, Difference, Listed, Progress, Side, Totals, Walk,
+};
+pub use frames::{diff_frames, entry_bytes, frames};
 pub use name::{compare, order};
 pub use number::{encint, read_encint};
 pub use open::open;

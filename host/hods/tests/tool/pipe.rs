@@ -30,6 +30,7 @@ fn a_closed_pipe_is_no_trouble() {
         &["list", "--json", "book"],
         &["list", "--frames", "book"],
         &["check", "book"],
+        &["compare", "book", "book"],
         &["--help"],
     ] {
         let run = unread(folder.command(args));
@@ -48,6 +49,10 @@ fn a_closed_pipe_hides_no_answer() {
     }
     let run = unread(command(&["find", "sample.chm", "/b", "--names", "-"]));
     assert_eq!((run.status, &run.err[..]), (1, ""));
+    for option in ["--", "--json"] {
+        let run = unread(command(&["compare", option, "several.chm", "sample.chm"]));
+        assert_eq!((run.status, &run.err[..]), (1, ""));
+    }
     let run = unread(command(&["check", "sample.chm", "chunk.bin"]));
     assert_eq!(run.status, 1);
     run.says(&["R2"]);
@@ -61,6 +66,7 @@ fn a_full_device_is() {
     for args in [
         &["list", "several.chm"][..],
         &["cat", "sample.chm", "/a.htm"],
+        &["compare", "sample.chm", "several.chm"],
         &["find", "sample.chm", "/", "--names", "/dev/null"],
     ] {
         let full = OpenOptions::new().write(true).open("/dev/full").unwrap();

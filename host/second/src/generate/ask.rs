@@ -26,7 +26,7 @@ const BIT_63: u64 = 1 << 63;
 const TOP: u64 = u64::MAX;
 
 /// Numbers that are too high for all that has a limit of its own.
-const FAR: [u64; 4] = [TOP_32, BIT_32, BIT_63, TOP];
+pub(super) const FAR: [u64; 4] = [TOP_32, BIT_32, BIT_63, TOP];
 
 const PART: &str = "part";
 
@@ -91,14 +91,14 @@ pub fn made_up_record(random: &mut Random, good: &Record, file: &[u8]) -> Record
 }
 
 /// Breaks one of the book's chunks by itself and says which.
-fn break_some_chunk(random: &mut Random, book: &mut Book) -> Option<u32> {
+pub(super) fn break_some_chunk(random: &mut Random, book: &mut Book) -> Option<u32> {
     let number = random.between(8..=12) as u8;
     let damage = damage_for(random, number);
     (damage.apply)(random, book)
 }
 
 /// Breaks just this chunk; nothing if that did not come about.
-fn break_chunk(random: &mut Random, book: &Book, wanted: u32) -> Option<Book> {
+pub(super) fn break_chunk(random: &mut Random, book: &Book, wanted: u32) -> Option<Book> {
     (0..60).find_map(|_| {
         let mut broken = book.clone();
         let place = break_some_chunk(random, &mut broken)?;
@@ -114,7 +114,7 @@ fn end_with_directory(book: &Book, file: &mut Vec<u8>, record: &mut Record) {
 }
 
 /// Cuts off the last byte of a chunk, and all that is behind it.
-fn end_inside(book: &Book, chunk: u32, file: &mut Vec<u8>, record: &mut Record) {
+pub(super) fn end_inside(book: &Book, chunk: u32, file: &mut Vec<u8>, record: &mut Record) {
     record.content = 0;
     file.truncate(book.chunk_place(chunk) + CHUNK - 1);
 }

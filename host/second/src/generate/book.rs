@@ -49,6 +49,49 @@ pub fn large_book(random: &mut Random, count: usize) -> Book {
     numbered(random, vec![listing, index, root], density, 1000)
 }
 
+/// A good book with just these entries, one or more, whose names rise. They are spread over the
+/// chunks at random; so are the numbers of the chunks and all that is free.
+pub fn book_of_items(random: &mut Random, items: &[Item], content_length: u64) -> Book {
+    let density = random.below(8) as u32;
+    let listing = spread(random, items, density);
+    let mut levels = vec![listing];
+    let mut most = random.pick(&[2, 3, 5, usize::MAX, usize::MAX]);
+    while levels[levels.len() - 1].len() > 1 {
+        let above = index_level(&levels[levels.len() - 1], density, most);
+        levels.push(above);
+        most = usize::MAX; // three of the longest names or more, so levels get shorter
+    }
+    numbered(random, levels, density, content_length)
+}
+
+/// Listing chunks for these entries. Behind the first of them each takes all that fits: few dozens
+/// are needed, for which five levels do.
+fn spread(random: &mut Random, items: &[Item], density: u32) -> Level {
+    const FEW: usize = 20;
+    let mut level = Level::new();
+    let mut room = Room::new(LISTING_HEADER, density);
+    let mut most = 0;
+    for item in items {
+        let length = item.bytes().len();
+        let last = level
+            .last_mut()
+            .filter(|chunk: &&mut Vec<Item>| chunk.len() < most);
+        match last {
+            Some(chunk) if room.take(length) => chunk.push(item.clone()),
+            _ => {
+                most = match level.len() {
+                    0..=FEW => entry_limit(random, density),
+                    _ => usize::MAX,
+                };
+                room = Room::new(LISTING_HEADER, density);
+                room.take(length);
+                level.push(vec![item.clone()]);
+            }
+        }
+    }
+    level
+}
+
 /// The entries of each chunk of a level, from left to right.
 type Level = Vec<Vec<Item>>;
 

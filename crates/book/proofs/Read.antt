@@ -1,0 +1,111 @@
+-- The entries of a listing chunk that passed its check, as they are read: their count, each behind the one before it, and what is reported of them.
+-- Assumes nothing.
+use mathlib.Core.Path.{_≡_, sym, ap, _∙_}
+use mathlib.Core.Bool.{true}
+use mathlib.Core.List.{List, _∷_}
+use Prim.Native.Nat.{ℕ, zero, suc, _+_, _-_, _≤_, _<_}
+use native.Mathlib.Omega.{arith}
+use lib.ListN.{length, drop}
+use lib.Seq.{drop-drop}
+use Rattle.fields.specs.Part.{part, partOf}
+use Rattle.fields.proofs.Parts.{part-inside, part-within}
+use Rattle.entries.specs.Entry.{itemAt}
+use Rattle.entries.specs.declared.Limits.{Limits}
+use Rattle.entries.specs.declared.Place.{Place}
+use Rattle.entries.specs.declared.Item.the-variants.{Good}
+use Rattle.entries.proofs.Laws.{item-inside}
+use Rattle.chunk.specs.Chunk.{Entry, all, entryOf, entriesAt, countOf, tailOf, entriesIn}
+use Rattle.chunk.proofs.Accepted.{Accepted, accepted, entries-more, entries-count}
+use Rattle.header.specs.declared.Record.{Record}
+use Rattle.tree.specs.Shape.{isListing}
+use Rattle.book.specs.Book.{limitsOf, chunkPlace, chunkBytes, directoryOf, reportOf, reportAt, ownOf, ownAt}
+use Rattle.book.proofs.Laws.{chunk-inside, chunk-whole, report-entry, own-entry}
+
+-- ---- entries that are left: those from entry i on
+
+pub left-more : (limits : Limits) (s : List ℕ) (end n i at : ℕ) (es : List Entry) → i < n → entriesAt limits true s end (n - i) at ≡ all (drop i es)
+    → (p : Place) × (itemAt limits true s at ≡ Good p) × (drop i es ≡ entryOf s p ∷ drop (i + 1) es)
+    × (entriesAt limits true s end (n - (i + 1)) (p .next) ≡ all (drop (i + 1) es))
+left-more limits s end n i at es l e =
+    let q : n - i ≡ suc (n - (i + 1)) = omega arith in
+    let m = entries-more limits true s end (n - (i + 1)) at (drop i es) (rw q at e) in
+    let r : drop (i + 1) es ≡ m .1 = sym (drop-drop 1 i es) ∙ ap (drop 1) (m .3) in
+    (m .0, m .2, m .3 ∙ ap (λ xs. entryOf s (m .0) ∷ xs) (sym r), m .4 ∙ ap all (sym r))
+
+-- each takes a byte at least
+entries-fit : (limits : Limits) (s : List ℕ) (end n at : ℕ) (es : List Entry) → entriesAt limits true s end n at ≡ all es → at ≤ length s → at + n ≤ length s
+entries-fit limits s end zero at es e l = omega arith
+entries-fit limits s end (suc n) at es e l =
+    let m = entries-more limits true s end n at es e in
+    let i = item-inside limits true s at (m .0) (m .2) in
+    let a = i .moves in
+    let b = i .ends in
+    let r = entries-fit limits s end n (m .0 .next) (m .1) (m .4) (omega arith) in
+    omega arith
+
+-- ---- a listing chunk of a book
+
+module _ (s : List ℕ) (book : Record) (c : ℕ) (is : isListing (directoryOf s book c) ≡ true) where
+  -- the bytes of the chunk, what they are held to, and their entries
+  abbrev bytes : List ℕ
+  bytes = chunkBytes s book c
+
+  abbrev limits : Limits
+  limits = limitsOf s book
+
+  abbrev es : List Entry
+  es = entriesIn (directoryOf s book c)
+
+  good : Accepted limits true bytes es
+  unfolding directoryOf
+  good = accepted limits true bytes is
+
+  pub entries-length : length es ≡ countOf bytes
+  entries-length = entries-count limits true bytes (4096 - tailOf bytes) (countOf bytes) 20 es (good .entries)
+
+  pub entries-some : 0 < length es
+  entries-some = let l = entries-length in let g = good .some in omega arith
+
+  pub entries-few : length es ≤ 4096
+  entries-few =
+      let z = good .size in
+      let l = entries-length in
+      let f = entries-fit limits bytes (4096 - tailOf bytes) (countOf bytes) 20 es (good .entries) (omega arith) in
+      omega arith
+
+  -- all of them are left at first
+  pub entries-left : entriesAt limits true bytes (4096 - tailOf bytes) (countOf bytes - 0) 20 ≡ all es
+  entries-left = let z : countOf bytes - 0 ≡ countOf bytes = omega arith in rw z (good .entries)
+
+  pub entries-read : entriesAt limits true bytes (4096 - tailOf bytes) (length es) 20 ≡ all es
+  entries-read = rw entries-length (good .entries)
+
+  -- what was read is reported as its entry says
+  pub read-reported : (at : ℕ) (e : Place) → itemAt limits true bytes at ≡ Good e → reportAt s book c e ≡ reportOf book c (entryOf bytes e)
+  read-reported at e h =
+      let z = good .size in
+      let i = item-inside limits true bytes at e h .name in
+      report-entry s book c e (chunk-whole s book c true is) (omega arith)
+
+  pub read-owned : (at : ℕ) (e : Place) → itemAt limits true bytes at ≡ Good e → ownAt s book c e ≡ ownOf book c (entryOf bytes e)
+  read-owned at e h =
+      let z = good .size in
+      let i = item-inside limits true bytes at e h in
+      let m = i .moves in
+      let n = i .ends in
+      let q = i .same in
+      own-entry s book c e (chunk-whole s book c true is) (omega arith)
+
+  -- the own bytes lie in the file, and are those of the chunk from the entry's place to the place behind it
+  pub own-stored : (at : ℕ) (e : Place) → itemAt limits true bytes at ≡ Good e
+      → partOf s (ownOf book c (entryOf bytes e) .place) (ownOf book c (entryOf bytes e) .length) ≡ part bytes (e .at) (e .next - e .at)
+  unfolding ownOf chunkBytes
+  own-stored at e h =
+      let z = good .size in
+      let i = item-inside limits true bytes at e h in
+      let m = i .moves in
+      let n = i .ends in
+      let q = i .same in
+      let w = chunk-inside s book c (chunk-whole s book c true is) in
+      part-inside s (chunkPlace book c + e .at) (e .next - e .at) (omega arith)
+      ∙ rw (part-inside s (chunkPlace book c) 4096 w) (sym (part-within s (chunkPlace book c) 4096 (e .at) (e .next - e .at) (omega arith)))

@@ -1,0 +1,16 @@
+pub mod Turns
+pub mod Turning
+pub mod Enough
+pub mod Passing
+pub mod Merged
+pub mod Stand
+pub mod Ordered
+pub mod Which
+pub mod Counted
+pub mod Cases
+pub mod Following
+pub mod Exact
+pub mod Books
+pub mod Compared
+pub mod Refusals
+pub mod Examples

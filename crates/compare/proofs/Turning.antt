@@ -1,0 +1,92 @@
+-- A step goes from name to name: what one name tells ends it. Each name leaves the two books with fewer entries to come (`turn-falls`, `step-falls`); one with
+-- nothing to tell leaves the first with fewer.
+-- Assumes nothing.
+use mathlib.Core.Path.{_≡_, refl, sym, subst}
+use mathlib.Core.Logic.{⊎-elim}
+use mathlib.Core.Bool.{Bool, true, false, cond}
+use mathlib.Core.List.{List}
+use Prim.Native.Nat.{ℕ, zero, suc, _+_, _≤_, _<_}
+use native.Mathlib.Omega.{arith}
+use Rattle.entries.specs.declared.Place.{Place}
+use Rattle.header.specs.declared.Record.{Record}
+use Rattle.walk.specs.Walk.{afterOf, comingAt, weight}
+use Rattle.walk.specs.declared.Walk.{Walk}
+use Rattle.walk.specs.declared.Coming.the-variants.{Entry}
+use Rattle.walk.proofs.Falling.{peek-falls, peek-keeps}
+use Rattle.compare.specs.Course.{oneSame, oneChanged}
+use Rattle.compare.specs.Compare.{bothAt, shownAt, sameAt, inBoth, turned, onTurn, stepFrom, compareStep, load, Lighter}
+use Rattle.compare.specs.declared.Totals.{Totals}
+use Rattle.compare.specs.declared.Cursor.{Cursor}
+use Rattle.compare.specs.declared.Step.{Step}
+use Rattle.compare.specs.declared.Step.the-variants.{First, Second, Changed, End, Refused}
+use Rattle.compare.specs.declared.Turn.{Turn}
+use Rattle.compare.specs.declared.Turn.the-variants.{Tell, On}
+use Rattle.compare.proofs.Turns.{Kept, turn-cases}
+
+-- a name that tells something; and one that has nothing to tell, where the first walk has gone on too
+abbrev LighterTurn : Cursor → Turn → Type 0
+LighterTurn at (Tell x) = Lighter (load at) x
+LighterTurn at (On a) = (load a < load at) × (weight (a .first) < weight (at .first))
+
+kept-light : (s : List ℕ) (book : Record) (w v : Walk) → Kept s book w v → weight v ≤ weight w
+kept-light s book w v k =
+    ⊎-elim (λ q. subst (λ (u : Walk). weight u ≤ weight w) q (omega arith)) (λ c. peek-keeps s book w v (c .0) (c .1)) k
+
+module _ (s₁ : List ℕ) (b₁ : Record) (s₂ : List ℕ) (b₂ : Record) where
+  both-lighter : (at : Cursor) (x : Place) (v₁ : Walk) (y : Place) (v₂ : Walk) → comingAt s₁ b₁ (at .first) ≡ Entry x v₁ → comingAt s₂ b₂ (at .second) ≡ Entry y v₂
+      → LighterTurn at (inBoth s₁ b₁ s₂ b₂ x v₁ y v₂ (at .totals))
+  unfolding inBoth
+  both-lighter at x v₁ y v₂ h k = go (sameAt x y) (peek-falls s₁ b₁ (at .first) v₁ x h) (peek-falls s₂ b₂ (at .second) v₂ y k)
+    where
+      go : (q : Bool) → weight (afterOf v₁ x) < weight (at .first) → weight (afterOf v₂ y) < weight (at .second)
+          → LighterTurn at (cond q (On (bothAt (afterOf v₁ x) (afterOf v₂ y) (oneSame (at .totals))))
+          (Tell (Changed (shownAt s₁ b₁ v₁ x) (shownAt s₂ b₂ v₂ y) (bothAt (afterOf v₁ x) (afterOf v₂ y) (oneChanged (at .totals))))))
+      go true a b = (omega arith, a)
+      go false a b = omega arith
+
+  turn-lighter : (at : Cursor) → LighterTurn at (turned s₁ b₁ s₂ b₂ at)
+  turn-lighter at =
+      turn-cases s₁ b₁ s₂ b₂ at (LighterTurn at)
+      (record {
+        refused = λ k e. tt;
+        ended = tt;
+        first = λ x v₁ v₂ h k. let a = peek-falls s₁ b₁ (at .first) v₁ x h in let b = kept-light s₂ b₂ (at .second) v₂ k in omega arith;
+        second = λ v₁ y v₂ h k. let a = kept-light s₁ b₁ (at .first) v₁ h in let b = peek-falls s₂ b₂ (at .second) v₂ y k in omega arith;
+        both = both-lighter at;
+      })
+
+  pub turn-falls : (at a : Cursor) → turned s₁ b₁ s₂ b₂ at ≡ On a → weight (a .first) < weight (at .first)
+  turn-falls at a h = subst (LighterTurn at) h (turn-lighter at) .1
+
+  -- ---- a step by what its first name gives
+
+  pub step-tell : (n : ℕ) (at : Cursor) (x : Step) → turned s₁ b₁ s₂ b₂ at ≡ Tell x → stepFrom s₁ b₁ s₂ b₂ (suc n) at ≡ x
+  unfolding stepFrom
+  step-tell n at x h = rw h
+
+  pub step-on : (n : ℕ) (at a : Cursor) → turned s₁ b₁ s₂ b₂ at ≡ On a → stepFrom s₁ b₁ s₂ b₂ (suc n) at ≡ stepFrom s₁ b₁ s₂ b₂ n a
+  unfolding stepFrom
+  step-on n at a h = rw h
+
+  -- ---- a step takes entries, or hands no cursor back
+
+  lighter-more : (m n : ℕ) (x : Step) → m ≤ n → Lighter m x → Lighter n x
+  lighter-more m n (First x a) l k = omega arith
+  lighter-more m n (Second y a) l k = omega arith
+  lighter-more m n (Changed x y a) l k = omega arith
+  lighter-more m n (End t) l k = tt
+  lighter-more m n (Refused j r) l k = tt
+
+  from-lighter : (n : ℕ) (at : Cursor) → Lighter (load at) (stepFrom s₁ b₁ s₂ b₂ n at)
+  unfolding stepFrom
+  from-lighter zero at = tt
+  from-lighter (suc n) at = go (turned s₁ b₁ s₂ b₂ at) (turn-lighter at) (λ a. from-lighter n a)
+    where
+      go : (x : Turn) → LighterTurn at x → ((a : Cursor) → Lighter (load a) (stepFrom s₁ b₁ s₂ b₂ n a))
+          → Lighter (load at) (onTurn (λ a. stepFrom s₁ b₁ s₂ b₂ n a) x)
+      go (Tell x) f i = f
+      go (On a) f i = let l = f .0 in lighter-more (load a) (load at) (stepFrom s₁ b₁ s₂ b₂ n a) (omega arith) (i a)
+
+  pub step-falls : (at : Cursor) → Lighter (load at) (compareStep s₁ b₁ s₂ b₂ at)
+  unfolding compareStep
+  step-falls at = from-lighter (suc (weight (at .first))) at

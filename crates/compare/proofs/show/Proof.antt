@@ -1,0 +1,15 @@
+use borrow.Author.Needs.{needs}
+use Rattle.compare.proofs.show.Statement.{statement}
+use Rattle.compare.proofs.show.Tie as tie
+
+report-of-requires : tie.Need-report-of-requires
+report-of-requires c κs = search needs
+
+own-of-requires : tie.Need-own-of-requires
+own-of-requires c κs = search needs
+
+returns : tie.Need-returns
+returns c = rw (c .before .report-of .ensures, c .own-of .ensures)
+
+pub show-spec : {M : Type 1} → statement M
+show-spec = tie.close (tie.spec report-of-requires own-of-requires returns)

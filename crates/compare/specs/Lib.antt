@@ -1,0 +1,4 @@
+pub mod Course
+pub mod Compare
+pub mod Passing
+pub mod Compared

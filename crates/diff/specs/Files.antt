@@ -1,0 +1,15 @@
+-- What becomes of a file that was read (FORMAT P7, P9).
+-- Assumes nothing.
+use Prim.Native.Nat.{ℕ}
+use mathlib.Core.Bool.{cond}
+use mathlib.Core.List.{List}
+use lib.ListN.{length}
+use lib.Dec.{ltb}
+use Rattle.book.specs.Book.{refusalOf}
+use Rattle.directory.specs.Opened.{opened}
+use Rattle.directory.specs.declared.Opened.{Opened}
+use Rattle.directory.specs.declared.Opened.the-variants.{Refused}
+
+-- one that is too long is refused by 29, else it is opened
+abbrev pub openedFile : List ℕ → Opened
+openedFile s = cond (ltb 30000 (length s)) (Refused (refusalOf 29)) (opened s)

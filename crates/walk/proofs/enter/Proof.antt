@@ -1,0 +1,117 @@
+use borrow.Author.Needs.{needs}
+use mathlib.Core.Path.{_≡_, sym, ap₂, _∙_}
+use mathlib.Core.Bool.{false}
+use Prim.Native.Nat.{ℕ, _-_}
+use native.Mathlib.Omega.{arith}
+use denote.Ref.{now}
+use Rattle.chunk.specs.Chunk.{countOf}
+use Rattle.chunk.specs.declared.Chunk.the-variants.{Listing}
+use Rattle.book.specs.Book.{chunkBytes, metChunk}
+use Rattle.book.proofs.Meeting.{met-listing, met-index, met-refused}
+use Rattle.book.proofs.Read.{entries-length}
+use Rattle.walk.specs.Walk.{isOver}
+use Rattle.walk.specs.declared.Entered.the-variants.{Inside}
+use Rattle.walk.proofs.Entering.{enter-inside, enter-over, enter-none, enter-barred, enter-chunk}
+use Rattle.walk.proofs.enter.Statement.{statement}
+use Rattle.walk.proofs.enter.Tie as tie
+
+-- the chain does not end here
+on : (c : tie.Else2) → let a = c .before .before .before .before .before .args in isOver (a .book) (a .w) ≡ false
+on c = sym (c .before .is-over .ensures) ∙ c .if2 .left
+
+met-is : (c : tie.After-next) → let a = c .before .before .before .before .before .before .before .before .before .before .args in
+    metChunk (now (a .file)) (a .book) (a .w .next) ≡ Listing (c .next .given .0 .0) (c .next .given .0 .1 .0)
+met-is c = sym (c .before .before .met .ensures) ∙ c .next .given .1
+
+count-is : (c : tie.After-le16) → let a = c .before .before .before .before .before .before .before .before .before .before .before .before .before .args in
+    c .le16 .result ≡ countOf (chunkBytes (now (a .file)) (a .book) (a .w .next))
+count-is c = rw (← c .before .chunk-bytes .ensures) (c .le16 .ensures)
+
+returns : tie.Need-returns
+returns c = let a = c .before .before .before .args in sym (enter-inside (now (a .file)) (a .book) (a .w) (c .if1 .taken))
+
+is-over-requires : tie.Need-is-over-requires
+is-over-requires c κs = search needs
+
+returns-2 : tie.Need-returns-2
+returns-2 c =
+    let a = c .before .before .before .before .before .args in
+    sym (enter-over (now (a .file)) (a .book) (a .w) (c .before .before .if1 .left) (sym (c .before .is-over .ensures) ∙ c .if2 .taken))
+
+returns-3 : tie.Need-returns-3
+returns-3 c =
+    let e = c .before .before in
+    let a = e .before .before .before .before .before .args in
+    sym (enter-none (now (a .file)) (a .book) (a .w) (e .before .before .if1 .left) (on e) (omega arith))
+
+met-requires : tie.Need-met-requires
+met-requires c κs = search needs
+
+enum-known-next : tie.Need-enum-known-next
+enum-known-next c = search needs
+
+cast-next : tie.Need-cast-next
+cast-next c = search needs
+
+enum-told : tie.Need-enum-told
+enum-told c = search needs
+
+returns-4 : tie.Need-returns-4
+returns-4 c =
+    let m = c .before .before in
+    let e = m .before .before .before in
+    let a = e .before .before .before .before .before .args in
+    sym (enter-barred (now (a .file)) (a .book) (a .w) (e .before .before .if1 .left) (on e)
+    (met-index (now (a .file)) (a .book) (a .w .next) (sym (m .met .ensures) ∙ c .enum-told .given .1)))
+
+enum-told-2 : tie.Need-enum-told-2
+enum-told-2 c = search needs
+
+returns-5 : tie.Need-returns-5
+returns-5 c =
+    let m = c .before .before in
+    let e = m .before .before .before in
+    let a = e .before .before .before .before .before .args in
+    sym (enter-barred (now (a .file)) (a .book) (a .w) (e .before .before .if1 .left) (on e)
+    (met-refused (now (a .file)) (a .book) (a .w .next) _ (sym (m .met .ensures) ∙ c .enum-told2 .given .1)))
+
+chunk-bytes-requires : tie.Need-chunk-bytes-requires
+chunk-bytes-requires c κs = search needs
+
+le16-requires : tie.Need-le16-requires
+le16-requires c κs = search needs
+
+cast-left : tie.Need-cast-left
+cast-left c = search needs
+
+returns-6 : tie.Need-returns-6
+returns-6 c =
+    let l = c .before in
+    let n = l .before .before .before in
+    let m = n .before .before in
+    let e = m .before .before .before in
+    let a = e .before .before .before .before .before .args in
+    let d = met-listing (now (a .file)) (a .book) (a .w .next) _ _ (met-is n) in
+    ap₂ (λ (l k : ℕ). Inside (record { chunk = a .w .next; at = 20; left = l; next = k; more = a .w .more - 1 }))
+    (count-is l ∙ sym (entries-length (now (a .file)) (a .book) (a .w .next) (d .kind))) (sym (d .next-is))
+    ∙ sym (enter-chunk (now (a .file)) (a .book) (a .w) (e .before .before .if1 .left) (on e) (omega arith) (d .below))
+
+pub enter-spec : {M : Type 1} → statement M
+enter-spec =
+    tie.close
+    (tie.spec
+    returns
+    is-over-requires
+    returns-2
+    returns-3
+    met-requires
+    enum-known-next
+    cast-next
+    enum-told
+    returns-4
+    enum-told-2
+    returns-5
+    chunk-bytes-requires
+    le16-requires
+    cast-left
+    returns-6)
