@@ -1,5 +1,8 @@
 //! The worked example of FORMAT's section Comparison, and the lines that its rows draw.
 
+mod common;
+
+use common::{directory, listing_chunk};
 use second::*;
 
 /// The sample book (FORMAT W16).
@@ -130,36 +133,10 @@ fn frames_of_diff() {
     assert_eq!(diff_frames(&one, &long[..30_000]), "ee02ffffffff\n");
 }
 
-/// A listing chunk with this next and one-letter names, without quick words at density 2.
+/// A listing chunk with this next and one-letter names, whose numbers are all the same.
 fn chunk(next: u32, names: &[u8]) -> Vec<u8> {
-    let entry = |&name: &u8| [1, name, 1, 2, 3];
-    let entries: Vec<u8> = names.iter().flat_map(entry).collect();
-    let mut chunk = b"PMGL".to_vec();
-    for word in [4076 - entries.len() as u32, 0, 7, next] {
-        chunk.extend(word.to_le_bytes());
-    }
-    chunk.extend(entries);
-    chunk.resize(4094, 0);
-    chunk.extend((names.len() as u16).to_le_bytes());
-    chunk
-}
-
-/// Bytes with these chunks, and a record for them that no book gave.
-fn directory(chunks: &[Vec<u8>]) -> (Vec<u8>, Record) {
-    let record = Record {
-        version: 0,
-        time: 0,
-        language: 0,
-        start: 0,
-        count: chunks.len() as u64,
-        density: 2,
-        depth: 5,
-        root: 9,
-        first: 0,
-        last: 9,
-        content: 0,
-    };
-    ([vec![0; 84], chunks.concat()].concat(), record)
+    let entries: Vec<[u8; 5]> = names.iter().map(|&name| [1, name, 1, 2, 3]).collect();
+    listing_chunk(next, &entries)
 }
 
 /// The names of the differences from the start on, each with its kind, and what ends them.
@@ -185,8 +162,8 @@ fn run(one: Side, two: Side) -> (String, Compared) {
 /// FORMAT X7, X10: names in their order, wherever chunks begin.
 #[test]
 fn names_come_in_their_order() {
-    let (one, first) = directory(&[chunk(1, b"ACE"), chunk(NONE, b"gh")]);
-    let (two, second) = directory(&[chunk(NONE, b"fgz"), chunk(0, b"bce")]);
+    let (one, first) = directory(0, &[chunk(1, b"ACE"), chunk(NONE, b"gh")]);
+    let (two, second) = directory(0, &[chunk(NONE, b"fgz"), chunk(0, b"bce")]);
     let second = Record { first: 1, ..second };
     let (told, end) = run(side(&one, &first), side(&two, &second));
     assert_eq!(told, "1A 2b 2f 1h 2z ");
@@ -196,8 +173,8 @@ fn names_come_in_their_order() {
 /// FORMAT X8: a walk stays in the chunk that it entered, and does not enter it again.
 #[test]
 fn what_is_not_taken_stays() {
-    let (one, first) = directory(&[chunk(NONE, b"b")]);
-    let (two, second) = directory(&[chunk(NONE, b"ac")]);
+    let (one, first) = directory(0, &[chunk(NONE, b"b")]);
+    let (two, second) = directory(0, &[chunk(NONE, b"ac")]);
     let (one, two) = (side(&one, &first), side(&two, &second));
     let start = compare_start(&first, &second);
     let entered = Progress {
@@ -214,8 +191,8 @@ fn what_is_not_taken_stays() {
 /// FORMAT X4, K19: as many chunks as the count are entered, none more.
 #[test]
 fn rings_end() {
-    let (ring, count_2) = directory(&[chunk(1, b"b"), chunk(0, b"d")]);
-    let (one, count_1) = directory(&[chunk(NONE, b"c")]);
+    let (ring, count_2) = directory(0, &[chunk(1, b"b"), chunk(0, b"d")]);
+    let (one, count_1) = directory(0, &[chunk(NONE, b"c")]);
     let told = |told: &str, book| (told.to_owned(), refused(book));
     let (ring, one) = (side(&ring, &count_2), side(&one, &count_1));
     assert_eq!(run(ring, one), told("1b 2c 1d ", 1));
@@ -233,7 +210,7 @@ fn rings_end() {
 /// FORMAT X4: none in front of the first chunk is no end.
 #[test]
 fn none_ends_behind_a_chunk_alone() {
-    let (one, good) = directory(&[chunk(NONE, b"a")]);
+    let (one, good) = directory(0, &[chunk(NONE, b"a")]);
     let none = Record { first: END, ..good };
     let (good, none) = (side(&one, &good), side(&one, &none));
     assert_eq!(run(none, good), (String::new(), refused(1)));
@@ -256,13 +233,13 @@ fn none_ends_behind_a_chunk_alone() {
 /// FORMAT X6, X11: the first book is asked first, at each turn.
 #[test]
 fn the_first_book_is_named_if_both_are_refused() {
-    let (one, good) = directory(&[chunk(1, b"ab"), chunk(9, b"c")]);
+    let (one, good) = directory(0, &[chunk(1, b"ab"), chunk(9, b"c")]);
     let bad = Record { density: 8, ..good };
     let (good, bad) = (side(&one, &good), side(&one, &bad));
     assert_eq!(run(bad, bad).1, refused(1));
     assert_eq!(run(good, bad).1, refused(2));
     assert_eq!(run(good, good).1, refused(1));
-    let (short, shorter) = directory(&[chunk(9, b"ab")]);
+    let (short, shorter) = directory(0, &[chunk(9, b"ab")]);
     let short = side(&short, &shorter);
     assert_eq!(run(short, good).1, refused(1));
     assert_eq!(run(good, short).1, refused(2));
@@ -276,7 +253,7 @@ fn the_first_book_is_named_if_both_are_refused() {
 /// FORMAT X5: made-up walks with entries left read in the chunk of their number.
 #[test]
 fn entries_are_read_where_the_cursor_says() {
-    let (file, record) = directory(&[chunk(1, b"ab"), b"\x01e\x01\0\0".repeat(820)]);
+    let (file, record) = directory(0, &[chunk(1, b"ab"), b"\x01e\x01\0\0".repeat(820)]);
     let file = &file[..84 + 2 * 4096];
     let count_1 = Record { count: 1, ..record };
     let one = side(file, &count_1);
@@ -311,7 +288,7 @@ fn entries_are_read_where_the_cursor_says() {
 /// FORMAT X4: where no entries are left, the chunk and the place of a walk do not matter.
 #[test]
 fn the_next_chunk_is_held_to_the_count() {
-    let (file, record) = directory(&[chunk(NONE, b"a"), chunk(NONE, b"b")]);
+    let (file, record) = directory(0, &[chunk(NONE, b"a"), chunk(NONE, b"b")]);
     let one = side(&file, &record);
     let step = |next, more| {
         let progress = Progress {

@@ -1,5 +1,8 @@
 //! The worked examples of docs/FORMAT.md, and the lines that its rows draw.
 
+mod common;
+
+use common::{directory, listing_chunk};
 use second::*;
 use std::cmp::Ordering;
 
@@ -288,41 +291,10 @@ fn sample_book_is_scanned() {
     }
 }
 
-/// A listing chunk with this next and one-letter names, without quick words at density 2. No
-/// chunk has the number 7 of its previous.
-fn listing_chunk(next: u32, names: &[u8]) -> Vec<u8> {
-    let entries: Vec<u8> = names
-        .iter()
-        .flat_map(|&name| [1, name, 1, 2, name])
-        .collect();
-    let tail = 4076 - entries.len() as u32;
-    let mut chunk = b"PMGL".to_vec();
-    for word in [tail, 0, 7, next] {
-        chunk.extend(word.to_le_bytes());
-    }
-    chunk.extend(entries);
-    chunk.resize(4094, 0);
-    chunk.extend((names.len() as u16).to_le_bytes());
-    chunk
-}
-
-/// Bytes with these chunks, and a record for them that no book gave.
-fn directory(first: u64, chunks: &[Vec<u8>]) -> (Vec<u8>, Record) {
-    let file = [vec![0; 84], chunks.concat()].concat();
-    let record = Record {
-        version: 0,
-        time: 0,
-        language: 0,
-        start: 0,
-        count: chunks.len() as u64,
-        density: 2,
-        depth: 5,
-        root: 9,
-        first,
-        last: 9,
-        content: 0,
-    };
-    (file, record)
+/// A listing chunk with this next and one-letter names, each with a length of its own.
+fn letters(next: u32, names: &[u8]) -> Vec<u8> {
+    let entries: Vec<[u8; 5]> = names.iter().map(|&name| [1, name, 1, 2, name]).collect();
+    listing_chunk(next, &entries)
 }
 
 /// The entry of a one-letter name, by its chunk and its place in the chunk.
@@ -345,11 +317,7 @@ const REFUSED: Reply = Reply::Refused(Refusal {
 /// the last chunk, the root and the depth.
 #[test]
 fn scans_along_the_chain() {
-    let chunks = [
-        listing_chunk(NONE, b"af"),
-        listing_chunk(0, b"Bd"),
-        listing_chunk(1, b"ef"),
-    ];
+    let chunks = [letters(NONE, b"af"), letters(0, b"Bd"), letters(1, b"ef")];
     let (file, record) = directory(2, &chunks);
     for (name, reply) in [
         (b'e', letter(b'e', 2, 0)),
@@ -370,15 +338,15 @@ fn scans_along_the_chain() {
 /// FORMAT K19: as many chunks as the count, and the first chunk too many.
 #[test]
 fn scans_round_a_ring() {
-    let (file, record) = directory(1, &[listing_chunk(1, b"b"), listing_chunk(0, b"a")]);
+    let (file, record) = directory(1, &[letters(1, b"b"), letters(0, b"a")]);
     assert_eq!(scan(&file, &record, b"a"), letter(b'a', 1, 0));
     assert_eq!(scan(&file, &record, b"b"), letter(b'b', 0, 0));
     assert_eq!(scan(&file, &record, b"c"), REFUSED);
     // With a count of 1 chunk 0 is met and no other.
-    let (file, record) = directory(0, &[listing_chunk(0, b"a")]);
+    let (file, record) = directory(0, &[letters(0, b"a")]);
     assert_eq!(scan(&file, &record, b"A"), letter(b'a', 0, 0));
     assert_eq!(scan(&file, &record, b"b"), REFUSED);
-    let (file, record) = directory(0, &[listing_chunk(NONE, b"a")]);
+    let (file, record) = directory(0, &[letters(NONE, b"a")]);
     assert_eq!(scan(&file, &record, b"b"), Reply::Absent);
 }
 
@@ -394,7 +362,7 @@ fn scans_that_meet_a_bad_chunk() {
         |_, record| record.count = 1,
     ];
     for change in breaks {
-        let chunks = [listing_chunk(1, b"a"), listing_chunk(NONE, b"bc")];
+        let chunks = [letters(1, b"a"), letters(NONE, b"bc")];
         let (mut file, mut record) = directory(0, &chunks);
         assert_eq!(scan(&file, &record, b"b"), letter(b'b', 1, 0));
         assert_eq!(scan(&file, &record, b"c"), letter(b'c', 1, 1));
@@ -414,7 +382,7 @@ fn scans_that_meet_no_listing_chunk() {
     let mut index = b"PMGI\xF5\x0F\x00\x00\x01c\x00".to_vec();
     index.resize(4094, 0);
     index.extend([1, 0]);
-    let (file, record) = directory(0, &[listing_chunk(1, b"a"), index]);
+    let (file, record) = directory(0, &[letters(1, b"a"), index]);
     let tree = Record {
         depth: 2,
         root: 1,
