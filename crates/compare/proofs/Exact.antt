@@ -6,6 +6,7 @@ use mathlib.Core.List.{List, [], _∷_, _++_}
 use Prim.Native.Nat.{ℕ, zero, suc, _<_}
 use native.Mathlib.Omega.{arith}
 use lib.ListN.{length, take}
+use lib.Seq.{take-nil}
 use Rattle.header.specs.declared.Record.{Record}
 use Rattle.book.specs.declared.Refusal.{Refusal}
 use Rattle.walk.specs.Walk.{weight, walkStart}
@@ -30,10 +31,6 @@ cursor-of : (at : Cursor) (d : Difference) (a : Cursor) → behindStep at (stepO
 cursor-of at (only-first x) a = refl
 cursor-of at (only-second y) a = refl
 cursor-of at (changed x y) a = refl
-
-take-none : (n : ℕ) → take {A = Difference} n [] ≡ []
-take-none zero = refl
-take-none (suc n) = refl
 
 abbrev pub Final : Step → Type 0
 Final x = (toldIn x ≡ []) × ((at : Cursor) → behindStep at x ≡ at)
@@ -74,7 +71,7 @@ module _ (s₁ : List ℕ) (b₁ : Record) (s₂ : List ℕ) (b₂ : Record) whe
     unfolding toldFrom
     run-take zero at ds r = refl
     run-take (suc n) at [] r =
-        steps-by n at last (step-is at last r) ∙ rw (f .0, f .1 at) (run-take n at [] r) ∙ take-none n
+        steps-by n at last (step-is at last r) ∙ rw (f .0, f .1 at) (run-take n at [] r) ∙ take-nil n
     run-take (suc n) at (d ∷ ds) (a, g, r) =
         steps-by n at (stepOf d a) (step-is at (stepOf d a) g) ∙ rw (told-of d a, cursor-of at d a) (ap (λ (l : List Difference). d ∷ l) (run-take n a ds r))
 

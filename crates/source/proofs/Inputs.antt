@@ -9,6 +9,7 @@ use native.Mathlib.Nat.{le-refl}
 use lib.ListN.{length}
 use lib.Dec.{ltb, eqb}
 use borrow.Author.Tests.{lt-ltb, le-ltb, ne-eqb}
+use Rattle.fields.proofs.Tests.{and-yes}
 use Rattle.names.specs.Names.{below}
 use Rattle.entries.specs.Entry.{listingAt, nameOf}
 use Rattle.entries.specs.declared.Place.{Place}
@@ -21,10 +22,6 @@ use Rattle.source.proofs.Rows.{run-more}
 -- the entries that are left end where the input does, and their names rise
 abbrev pub passes : List ℕ → ℕ → List ℕ → List Place → Bool
 passes s at last es = eqb (endOf at es) (length s) && rises last (map (storedOf s) es)
-
-and-true : (a : Bool) → (a && true) ≡ a
-and-true true = refl
-and-true false = refl
 
 and-swap : (a b c : Bool) → (a && (b && c)) ≡ (b && (a && c))
 and-swap true b c = refl
@@ -52,7 +49,7 @@ module _ (content : ℕ) (s : List ℕ) where
   -- no entry is left
   pub passes-end : (left at : ℕ) (last : List ℕ) → ahead left at ≡ [] → passes s at last (ahead left at) ≡ eqb at (length s)
   unfolding endOf rises
-  passes-end left at last q = rw q (and-true (eqb at (length s)))
+  passes-end left at last q = rw q (and-yes (eqb at (length s)))
 
   pub passes-more : (left at : ℕ) (last : List ℕ) (e : Place) → 0 < left → listingAt content s at ≡ Good e
       → passes s at last (ahead left at) ≡ (below last (nameOf s e) && passes s (e .next) (nameOf s e) (ahead (left - 1) (e .next)))

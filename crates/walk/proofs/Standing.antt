@@ -1,14 +1,14 @@
 -- What a walk reads from its start is what stands along the chain of its book, whatever the bytes and the record are: `walk-exact`.
 -- Assumes nothing.
 use mathlib.Core.Path.{_≡_, refl, sym, subst, _∙_}
-use mathlib.Core.Bool.{Bool, true, false, cond, _&&_}
+use mathlib.Core.Bool.{Bool, true, false, cond}
 use mathlib.Core.List.{List, [], _∷_, _++_, map}
 use Prim.Native.Nat.{ℕ, zero, suc, _-_, _≤_, _<_}
 use native.Mathlib.Omega.{arith}
 use lib.ListN.{length}
 use lib.Dec.{eqb}
 use borrow.Author.Tests.{lt-ltb, le-ltb}
-use Rattle.fields.proofs.Tests.{and-no}
+use Rattle.fields.proofs.Tests.{and-yes, and-no}
 use Rattle.fields.proofs.Parts.{part-inside}
 use Rattle.entries.specs.Entry.{itemAt}
 use Rattle.entries.specs.declared.Place.{Place}
@@ -29,10 +29,6 @@ use Rattle.walk.specs.declared.Walk.{Walk}
 use Rattle.walk.specs.declared.Entered.the-variants.{Inside, Over, Barred}
 use Rattle.walk.specs.declared.Coming.the-variants.{Entry as Next}
 use Rattle.walk.proofs.Entering.{enter-inside, enter-over, enter-none, enter-barred, enter-chunk, peek-unfit, peek-entered, peek-here}
-
-and-yes : (a : Bool) → (a && true) ≡ a
-and-yes true = refl
-and-yes false = refl
 
 module _ (s : List ℕ) (book : Record) where
   -- at which the same comes next reads the same
