@@ -4,7 +4,7 @@
 
    A record is HODS_RECORD numbers: version, time, language, directory start, chunk count, density, depth, root, first, last, content start. A refusal is its
    number in the table of docs/FORMAT.md plus 256 times its place: the chunk's number for 8 to 12, else FFFFFFFF hex. After a refusal no lent place has
-   changed. */
+   changed. A number of an entry, an ENCINT, may be padded: leading bytes 80 are seven zero bits each, within nine bytes in all. Its short form has none. */
 #ifndef HODSPLINTER_H
 #define HODSPLINTER_H
 
@@ -41,10 +41,11 @@ uint64_t hods_scan(const uint8_t *file, size_t len, const uint64_t record[HODS_R
    absent is worth nothing: the name may be there. What it finds stands at the place it tells all the same, and nothing outside what is lent is read. */
 uint64_t hods_lookup_opened(const uint8_t *file, size_t len, const uint64_t record[HODS_RECORD], const uint8_t *name, size_t name_len, uint64_t answer[5]);
 
-/* Opens the book and looks many names up in it. They stand one behind another in names, each an ENCINT of its length and its bytes. 0 with 32 bytes a name at
-   the front of answers, in the order of the names: four little-endian numbers of 64 bits, status (0 found, 255 absent, 15 for a name of 0 bytes or more
-   than 1,024), section, offset, length, the last three 0 unless found; later bytes stay. Each is what hods_lookup gives for that name. Else the refusal:
-   that of hods_open, or 22 where a name is cut off, its length is no good ENCINT, or answers is too short. No names need no answers. */
+/* Opens the book and looks many names up in it. They stand one behind another in names, each an ENCINT of its length, padded or in its short form, and its
+   bytes. 0 with 32 bytes a name at the front of answers, in the order of the names: four little-endian numbers of 64 bits, status (0 found, 255 absent, 15
+   for a name of 0 bytes or more than 1,024), section, offset, length, the last three 0 unless found; later bytes stay. Each is what hods_lookup gives for
+   that name. Else the refusal: that of hods_open, or 22 where a name is cut off, its length is no ENCINT of nine bytes or fewer, or answers is too short. No
+   names need no answers. */
 uint64_t hods_batch(const uint8_t *file, size_t len, const uint8_t *names, size_t names_len, uint8_t *answers, size_t answers_len);
 
 /* 0 and the cursor at the start of the listing. */
@@ -52,6 +53,10 @@ uint64_t hods_start(const uint64_t record[HODS_RECORD], uint64_t cursor[2]);
 
 /* 0 with the entry (name's place, its length, section, offset, length) and the cursor moved on; 255 at the end with nothing changed; or the refusal. */
 uint64_t hods_step(const uint8_t *file, size_t len, const uint64_t record[HODS_RECORD], uint64_t cursor[2], uint64_t entry[5]);
+
+/* 0 with place and length in the file of the own bytes of the entry at the cursor: from its name's length to its last number as they stand, leading bytes 80
+   of a padded number with them. The cursor stays. 255 with nothing changed where hods_step gives no entry: at the end, and wherever it refuses. */
+uint64_t hods_own(const uint8_t *file, size_t len, const uint64_t record[HODS_RECORD], const uint64_t cursor[2], uint64_t part[2]);
 
 /* 0 and the entries of one listing chunk, five numbers each, with next[0] their count and next[1] the next chunk's number; 255 where there are too few
    places for them, with nothing changed (4,070 always do); or the refusal. */
@@ -74,9 +79,10 @@ uint64_t hods_compare_step(const uint8_t *file1, size_t len1, const uint64_t one
 uint64_t hods_part(const uint8_t *file, size_t len, uint64_t place, uint64_t length);
 
 /* Writes the head of a new book, all that stands in front of its content, by the section Writer of docs/FORMAT.md. The entries are listing entries (name
-   length, name, section, offset, length), one directly behind another with rising names; density is 0 to 7, the content's length below 2^62. 0 with the
-   head at the front of out and its length in length[0], 204 + 4,096 for each chunk, at most 16,777,420; what is behind it in out stays. Else the refusal:
-   18 where these rules are broken, 19 where it takes more than 4,096 chunks or 5 levels, 20 where out is shorter than the head. */
+   length, name, section, offset, length), one directly behind another with rising names, each number in its short form; density is 0 to 7,
+   the content's length below 2^62. 0 with the head at the front of out and its length in length[0], 204 + 4,096 for each chunk, at most 16,777,420; what is
+   behind it in out stays. Else the refusal: 18 where these rules are broken, by a padded number too, 19 where it takes more than 4,096 chunks or 5 levels, 20
+   where out is shorter than the head. */
 uint64_t hods_write_head(const uint8_t *entries, size_t len, uint32_t density, uint32_t time, uint32_t language, uint64_t content_length, uint8_t *out,
                          size_t out_len, uint64_t length[1]);
 

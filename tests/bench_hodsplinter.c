@@ -13,7 +13,7 @@ static size_t encint_len(uint64_t n) {
     return len;
 }
 
-/* The bytes of the entries one behind another, from their reports: each number has one encoding. Where `step` is not 0, each step-th is left out. Their length. */
+/* The bytes of the entries one behind another, from their reports: in the measured books each number has its short form. Where `step` is not 0, each step-th is left out. Their length. */
 static size_t gather(uint8_t *to, size_t step) {
     uint64_t next[2];
     size_t size = 0, count = 0;

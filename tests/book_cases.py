@@ -1,12 +1,13 @@
 """Whole books on both sides of each rule, with answers set by hand from docs/FORMAT.md, and books with random damage.
 
-  cases()        (what, rows, data, answer); an answer is 'book' or (number, place)
-  batch_cases()  (what, rows, data, names, room, answer); an answer is the bytes of the answers or (number, place)
-  damaged(r)     (what, data) of a random book with some damage
+  cases()         (what, rows, data, answer); an answer is 'book' or (number, place)
+  padded_books()  (what, builder, frames) of books with padded numbers; the frames are the lines of the program `list`
+  batch_cases()   (what, rows, data, names, room, answer); an answer is the bytes of the answers or (number, place)
+  damaged(r)      (what, data) of a random book with some damage
 """
 
-from books import AS_BYTES, DIRECTORY, FILE, SECTION0, Builder, Part, random_book
-from chunks import CHUNK, INDEX, LISTING, NONE, encode, index_entry, listing_entry
+from books import AS_BYTES, DIRECTORY, FILE, SECTION0, Builder, Part, lined_up, random_book
+from chunks import CHUNK, INDEX, LISTING, NONE, encode
 
 WIDTH = {name: width for table in (FILE, SECTION0, DIRECTORY) for name, (_, width) in table.items()}
 made = []
@@ -267,12 +268,14 @@ def chunk_faults():
     case('chain and the last chunk\'s tag', 'RO2, RO3', chained.build(), (8, 6))
 
 
-def entries():
-    def single(raw, content=b'hello', **options):
-        b = Builder([(b'/a', 0, 0, 0)], content, **options)
-        b.parts[0].entries = [raw]
-        return b.build()
+def single(raw, content=b'hello', **options):
+    """A book of one entry, its bytes or its name and numbers."""
+    b = Builder([(b'/a', 0, 0, 0)], content, **options)
+    b.parts[0].entries = [raw]
+    return b.build()
 
+
+def entries():
     for offset, length, answer in ((0, 5, 'book'), (5, 0, 'book'), (2, 3, 'book'), (0, 6, (10, 0)), (6, 0, (10, 0)),
                                    (3, 3, (10, 0)), (2 ** 63 - 1, 1, (10, 0)), (2 ** 63 - 1, 2 ** 63 - 1, (10, 0))):
         for version in (2, 3):
@@ -294,7 +297,6 @@ def entries():
     case('name of 1,024 bytes', 'E4', single((b'/' * 1024, 0, 0, 0)), 'book')
     case('name of 1,025 bytes', 'E4', single((b'/' * 1025, 0, 0, 0)), (10, 0))
     case('name of 0 bytes', 'E4', single(b'\0\0\0\0'), (10, 0))
-    case('offset 80 01', 'N4', single(b'\x02/a\x01\x80\x01\x00'), (10, 0))
     case('offset of nine bytes', 'N3', single(b'\x02/a\x01' + b'\xff' * 8 + b'\x7f\x00'), 'book')
     case('offset of ten bytes', 'N3', single(b'\x02/a\x01' + b'\xff' * 9 + b'\x7f\x00'), (10, 0))
     for child, answer in ((6, 14), (7, (10, 4)), (1 << 32, (10, 4))):
@@ -445,10 +447,60 @@ def wood_of(left, right):
     return w.build()
 
 
+def padding():
+    """Bytes 80 in front of each number, on both sides of the nine bytes of N3, and numbers that are too high behind them."""
+    for what, ahead, number, behind in (('name length', b'', b'\x02', b'/a\0\x01\x01'), ('section', b'\x02/a', b'\0', b'\x01\x01'),
+                                        ('offset', b'\x02/a\0', b'\x05', b'\0'), ('length', b'\x02/a\0\0', b'\x05', b'')):
+        for pad, answer in ((1, 'book'), (8, 'book'), (9, (10, 0)), (20, (10, 0))):
+            case('%s behind %d bytes 80' % (what, pad), 'N3' if pad > 8 else 'N4', single(ahead + b'\x80' * pad + number + behind), answer)
+        case('%s of 80 at the end of the entries' % what, 'N6, C3', single(ahead + b'\x80'), (10, 0))
+    case('name length 80 00', 'E4, N4', single(b'\x80\0/a\0\0\0'), (10, 0))
+    case('name length 80 88 01, 1,025 bytes', 'E4, N4', single(b'\x80\x88\x01' + b'/' * 1025 + b'\0\0\0'), (10, 0))
+    case('section 80 84 80 00, 65,536', 'E5, N4', single(b'\x02/a\x80\x84\x80\0\0\0'), (10, 0))
+    case('offset 80 06, 5 bytes of content', 'E6, N4', single(b'\x02/a\0\x80\x06\0'), (10, 0))
+    for child, rows, answer in ((b'\x80\0', 'N4', 'book'), (b'\x80' * 8 + b'\0', 'N4', 'book'), (b'\x80' * 9 + b'\0', 'N3', (10, 4)),
+                                (b'\x80\x07', 'E7', (10, 4)), (b'\x80\x01', 'T4', 14)):
+        w = wood()
+        w.parts[4].entries[0] = b'\x02/a' + child
+        case('child %s' % child.hex(' '), rows, w.build(), answer)
+    for what, b, _ in padded_books():
+        case(what, 'N4', b.build(), 'book')
+
+
+EIGHT = '80' * 8
+
+
+def padded_trio():
+    """Three entries with each number padded alone, with all of them and with a mix."""
+    def book(*pads, **options):
+        pads = dict(zip((b'/', b'/a', b'/b'), pads if len(pads) == 3 else 3 * pads))
+        return Builder([(b'/', 0, 0, 0), (b'/a', 0, 2, 3), (b'/b', 16391, 7, 9)], b'hello', pads=pads.get, **options)
+
+    yield 'no number padded', book((0, 0, 0, 0)), ('012f000000', '022f61000203', '022f628180070709')
+    yield 'name lengths padded', book((1, 0, 0, 0)), ('80012f000000', '80022f61000203', '80022f628180070709')
+    yield 'sections padded', book((0, 1, 0, 0)), ('012f80000000', '022f6180000203', '022f62808180070709')
+    yield 'offsets padded', book((0, 0, 1, 0)), ('012f00800000', '022f6100800203', '022f62818007800709')
+    yield 'lengths padded', book((0, 0, 0, 1)), ('012f00008000', '022f6100028003', '022f62818007078009')
+    yield 'a mix', book((2, 0, 1, 0), (0, 0, 0, 0), (0, 3, 0, 8)), ('8080012f00800000', '022f61000203', '022f6280808081800707' + EIGHT + '09')
+    yield 'all numbers of nine bytes, depth 3', book((8, 8, 8, 8), depth=3), (
+        EIGHT + '012f' + 3 * (EIGHT + '00'), EIGHT + '022f61' + EIGHT + '00' + EIGHT + '02' + EIGHT + '03',
+        EIGHT + '022f62' + '80' * 6 + '818007' + EIGHT + '07' + EIGHT + '09')
+
+
+def padded_books():
+    """Three entries, then quick words behind padded entries, then padded children."""
+    yield from padded_trio()
+    names = [b'/%02d' % i for i in range(11)]
+    pads = dict(zip(names, ((i % 3, i % 2, 0, i % 5) for i in range(11))))
+    yield 'eleven padded entries, two quick words', Builder([(n, 1, 0, 2) for n in names], pads=pads.get, fill=0xFF), tuple(
+        '80' * (i % 3) + '032f' + n[1:].hex() + '80' * (i % 2) + '0100' + '80' * (i % 5) + '02' for i, n in enumerate(names))
+    yield 'three levels with padded children', wood(pads=lambda name: (1, 8, 0, 0)), tuple('80022f6%d' % i + EIGHT + '000000' for i in range(1, 9))
+
+
 def cases():
     if not made:
         for group in (short_files, tags, versions, places, lengths, directory_tags, directory_numbers, chunk_faults,
-                      entries, chains, trees):
+                      entries, padding, chains, trees):
             group()
     return made
 
@@ -456,9 +508,11 @@ def cases():
 def batch_cases():
     book = plain().build()
     refused = put(book, 204, b'?')
+    padded = next(b for what, b, _ in padded_books() if what == 'a mix').build()
+    names = b'/', b'/A.HTM', b'/b', b'', b'x' * 1025
     five = b'\x01/' + b'\x06/A.HTM' + b'\x02/b' + b'\x00' + b'\x88\x01' + b'x' * 1025
-    numbers = (0, 0, 0, 0), (0, 0, 0, 5), (255, 0, 0, 0), (15, 0, 0, 0), (15, 0, 0, 0)
-    told = b''.join(n.to_bytes(8, 'little') for answer in numbers for n in answer)
+    numbers_of = lambda *answers: b''.join(n.to_bytes(8, 'little') for answer in answers for n in answer)
+    told = numbers_of((0, 0, 0, 0), (0, 0, 0, 5), (255, 0, 0, 0), (15, 0, 0, 0), (15, 0, 0, 0))
     return [
         ('two names of the book, one that it lacks, one empty, one too long', 'B3, B4, B6', book, five, 160, told),
         ('room to spare', 'B5', book, five, 161, told),
@@ -469,7 +523,16 @@ def batch_cases():
         ('the last byte of the names is missing', 'B2, R22', book, five[:-1], 160, (22, NONE)),
         ('one name whole, the next cut off', 'B2, B7', book, b'\x01/\x02/', 64, (22, NONE)),
         ('a length cut off', 'B2, N6', book, b'\x01/\x81', 64, (22, NONE)),
-        ('a length of 80 01', 'B2, N4', book, b'\x80\x01/', 64, (22, NONE)),
+        ('a length of 80 alone', 'B2, N6', book, b'\x01/\x80', 64, (22, NONE)),
+        ('a length of 80 01', 'B2, N4', book, b'\x80\x01/', 32, told[:32]),
+        ('a length of 80 00', 'B2, B3, N4', book, b'\x80\x00', 32, told[96:128]),
+        ('a length of eight 80 and 06', 'B2, N4', book, b'\x80' * 8 + b'\x06/a.htm', 32, told[32:64]),
+        ('a length of nine 80 and 01', 'B2, N3', book, b'\x80' * 9 + b'\x01/', 32, (22, NONE)),
+        ('each length behind one 80', 'B2, N4', book, lined_up(names, 1), 160, told),
+        ('each length of nine bytes', 'B2, N4', book, lined_up(names, 8), 160, told),
+        ('padded lengths, the last byte missing', 'B2, N4', book, lined_up(names, 8)[:-1], 160, (22, NONE)),
+        ('padded lengths, one byte too little room', 'B5, N4', book, lined_up(names, 1), 159, (22, NONE)),
+        ('a book with padded numbers', 'B6, N4', padded, b'\x02/A\x80\x02/b\x02/c', 96, numbers_of((0, 0, 2, 3), (0, 16391, 7, 9), (255, 0, 0, 0))),
         ('a length of 2^63 - 1', 'B2, N3', book, b'\xff' * 8 + b'\x7f', 64, (22, NONE)),
         ('a length of ten bytes', 'B2, N3', book, b'\xff' * 9 + b'\x7f', 64, (22, NONE)),
         ('a refused book, names that are none, no room', 'RO10', refused, b'\x80\x01', 0, (8, 0)),
@@ -538,9 +601,9 @@ def hurt_entry(r, b):
     else:
         j = r.randrange(len(name))
         name = r.choice((name.swapcase(), name[:-1], put(name, j, bytes([r.randrange(256)])), name + b'a'))[:1024]
-    made_entry = (listing_entry if part.kind == LISTING else index_entry)(name, *numbers)
-    if r.random() < .1:
-        made_entry = made_entry[:-1] + r.choice((b'', b'\x80\x00', b'\x81'))
+    made_entry = Part(part.kind, [(name, *numbers)], pads=part.pads).raw()[0]
+    if r.random() < .2:
+        made_entry = made_entry[:-1] + r.choice((b'', b'\x80\x00', b'\x80' * 8 + b'\x00', b'\x80' * 9 + b'\x00', b'\x80', b'\x81'))
     part.entries[i] = made_entry
 
 

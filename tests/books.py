@@ -6,6 +6,7 @@ code with the library. One chunk by itself is judged by chunks.py.
   Builder, build_book            the bytes of a book, good or damaged
   opened                         the record of a book, or why it is refused
   step, walk, listing            the entries, by the cursor
+  owned                          the entries with their own bytes, by the chain
   lookup                         the descent for a name
   batch                          many names at once
   lent                           a part of the book
@@ -18,9 +19,10 @@ the file, length of the name, section, offset, length). A refusal is
 """
 
 from functools import lru_cache
+from zlib import crc32
 
 from chunks import (CHUNK, HEADER, INDEX, LISTING, NONE, build_index, build_listing, choose,
-                    compare, decode, encode, find, fold, index_entry, listing_entry, nth, quick_count,
+                    compare, decode, find, fold, index_entry, listing_entry, nth, padded, quick_count,
                     verdict)
 
 RECORD = ('version', 'time', 'language', 'directory_start', 'count', 'density', 'depth',
@@ -148,7 +150,7 @@ def leaves(parts, number, level, met):
         yield number
     else:
         met.add(number)
-        for _, _, name, child in parts[number][1]:
+        for _, _, name, child, _ in parts[number][1]:
             first_of_child = parts[child][-1][0]
             if first_of_child[2] != name:
                 yield None
@@ -203,7 +205,7 @@ def meet(data, record, number, kind):
 
 
 def report(record, number, entry):
-    _, name_at, name, section, offset, length = entry
+    _, name_at, name, section, offset, length, _ = entry
     return chunk_place(record, number) + name_at, len(name), section, offset, length
 
 
@@ -248,6 +250,18 @@ def listing(data, record):
     return out
 
 
+def owned(data, record):
+    """(report, own bytes) of each entry of a book in the order of the listing,
+    the bytes as they stand, leading 80 bytes with them (P3)."""
+    data, number, out = bytes(data), record['first'], []
+    while number != NONE:
+        at = chunk_place(record, number)
+        _, _, following, entries = meet(data, record, number, 'listing')
+        out += [(report(record, number, e), data[at + e[0]:at + e[-1]]) for e in entries]
+        number = following
+    return out
+
+
 def lookup(data, record, name, places=5):
     """('found', report, trail), ('absent', trail), or the refusal; `places` is
     the length of the lent trail."""
@@ -276,9 +290,10 @@ def lookup(data, record, name, places=5):
     return ('found', report(record, number, entry), trail) if entry else ('absent', trail)
 
 
-def lined_up(names):
-    """The bytes of these names as a batch takes them (B2)."""
-    return b''.join(encode(len(name)) + bytes(name) for name in names)
+def lined_up(names, pad=0):
+    """The bytes of these names as a batch takes them (B2), each length behind
+    so many bytes 80."""
+    return b''.join(padded(len(name), pad) + bytes(name) for name in names)
 
 
 def names_in(data):
@@ -320,14 +335,6 @@ def lent(data, place, length):
 
 # The program
 
-def entry_bytes(data, told):
-    """A reported listing entry's own bytes. A value has one ENCINT, so the
-    report tells how long each field is."""
-    place, size = told[:2]
-    begin = place - len(encode(size))
-    return data[begin:place + size + sum(len(encode(n)) for n in told[2:])]
-
-
 def frames(data):
     """The text that the program `list` prints for this input."""
     data = bytes(data)
@@ -336,7 +343,7 @@ def frames(data):
     answer = opened(data)
     if answer[0] == 'refused':
         return 'ee%02x%08x\n' % answer[1:]
-    return ''.join(entry_bytes(data, told).hex() + '\n' for told in listing(data, answer[1]))
+    return ''.join(own.hex() + '\n' for _, own in owned(data, answer[1]))
 
 
 # Building
@@ -360,19 +367,30 @@ def runs(sizes, header, density, most=None):
     return out
 
 
+def short(name):
+    """No bytes 80 in front of a number."""
+    return 0, 0, 0, 0
+
+
 class Part:
     """A chunk to be built. Entries are tuples, or bytes that stand as they
-    are; `damage` goes to the builders of chunks.py."""
+    are; `pads` is that of the Builder; `damage` goes to the builders of
+    chunks.py."""
 
-    def __init__(self, kind, entries, level=1, prev=NONE, next=NONE, word=0, **damage):
-        self.kind, self.entries, self.level = kind, list(entries), level
+    def __init__(self, kind, entries, level=1, prev=NONE, next=NONE, word=0, pads=short, **damage):
+        self.kind, self.entries, self.level, self.pads = kind, list(entries), level, pads
         self.prev, self.next, self.word, self.damage = prev, next, word, damage
+
+    def raw(self):
+        """The bytes of each entry."""
+        maker = index_entry if self.kind == INDEX else listing_entry
+        return [e if isinstance(e, bytes) else maker(*e, self.pads(e[0])) for e in self.entries]
 
     def build(self, density, fill):
         more = dict({'fill': fill}, **self.damage)
         if self.kind == INDEX:
-            return build_index(self.entries, density, **more)
-        return build_listing(self.entries, density, self.prev, self.next, self.word, **more)
+            return build_index(self.raw(), density, **more)
+        return build_listing(self.raw(), density, self.prev, self.next, self.word, **more)
 
 
 class Builder:
@@ -394,6 +412,9 @@ class Builder:
                 behind the second (version 2: the last belongs to the content)
     fill        unused tail bytes and gaps: a value, or a function from a length
     chunk_word  the unchecked word of listing chunks: a number or a function
+    pads        how many bytes 80 stand in front of each number of an entry,
+                name length, section (or child), offset, length: a function
+                from its name
     others      the fields of UNCHECKED
 
     Damage: change `parts`, `numbers` (the number of each part), or name
@@ -402,23 +423,23 @@ class Builder:
     """
 
     def __init__(self, entries, content=b'', version=3, density=2, per=None, fan=None, depth=1, order=None,
-                 behind=False, gaps=(0, 0, 0), fill=0, chunk_word=0, **others):
+                 behind=False, gaps=(0, 0, 0), fill=0, chunk_word=0, pads=short, **others):
         self.content = bytes(content)
-        self.version, self.density, self.behind, self.gaps, self.fill = version, density, behind, gaps, fill
+        self.version, self.density, self.behind, self.gaps, self.fill, self.pads = version, density, behind, gaps, fill, pads
         self.others = others
         if not set(others) <= set(UNCHECKED):
             raise ValueError('no such option: %s' % sorted(others))
         word = chunk_word if callable(chunk_word) else lambda: chunk_word
         entries = list(entries)
-        bounds = runs([len(listing_entry(*e)) for e in entries], HEADER[LISTING], density, per)
-        level = [Part(LISTING, entries[a:b], word=word()) for a, b in bounds]
+        bounds = runs([len(listing_entry(*e, pads(e[0]))) for e in entries], HEADER[LISTING], density, per)
+        level = [Part(LISTING, entries[a:b], word=word(), pads=pads) for a, b in bounds]
         levels = [level]
         while len(level) > 1 or len(levels) < depth:
             below = sum(map(len, levels[:-1]))
             links = [(p.entries[0][0], below + i) for i, p in enumerate(level)]
             # where the numbers are not known yet, room for the longest
-            sizes = [len(index_entry(n, i if order is None else 4095)) for n, i in links]
-            level = [Part(INDEX, links[a:b], len(levels) + 1) for a, b in runs(sizes, HEADER[INDEX], density, fan)]
+            sizes = [len(index_entry(n, i if order is None else 4095, pads(n))) for n, i in links]
+            level = [Part(INDEX, links[a:b], len(levels) + 1, pads=pads) for a, b in runs(sizes, HEADER[INDEX], density, fan)]
             levels.append(level)
             if len(levels) > 16:
                 raise ValueError('the levels do not end')
@@ -509,10 +530,15 @@ class Builder:
         out = []
         for position, part in enumerate(self.levels[0]):
             at = self.part_at(position) + HEADER[LISTING]
-            for name, section, offset, length in part.entries:
-                out.append((at + len(encode(len(name))), len(name), section, offset, length))
-                at += len(listing_entry(name, section, offset, length))
+            for (name, *numbers), raw in zip(part.entries, part.raw()):
+                front = len(padded(len(name), part.pads(name)[0]))
+                out.append((at + front, len(name), *numbers))
+                at += len(raw)
         return out
+
+    def own(self):
+        """The own bytes of each entry, as they are to stand."""
+        return [raw for part in self.levels[0] for raw in part.raw()]
 
     def names(self):
         return [e[0] for part in self.levels[0] for e in part.entries]
@@ -563,6 +589,14 @@ def random_entries(r, names, content):
     return out
 
 
+def random_pads(r):
+    """No padding, the same for each number, or another for each name."""
+    same, salt = r.choice((0, 0, 0, 1, 8, None, None)), r.getrandbits(32)
+    if same is None:
+        return lambda name: [(0, 0, 0, 1, 1, 2, 5, 8)[byte % 8] for byte in crc32(name, salt).to_bytes(4, 'little')]
+    return lambda name: (same,) * 4
+
+
 def random_options(r):
     """Options of a Builder."""
     options = dict(
@@ -571,7 +605,7 @@ def random_options(r):
         fan=r.choice((None, None, 2, 3, lambda: r.randint(2, 6))), depth=r.choice((1, 1, 1, 2, 3, 4, 5)),
         order=r.choice((None, lambda c: r.sample(range(c), c))), fill=r.choice((0, 0xFF, r.randbytes)),
         gaps=r.choice(((0, 0, 0), (0, 0, 0), (1, 0, 0), tuple(r.randint(0, 300) for _ in range(3)))),
-        chunk_word=r.choice((0, NONE, lambda: r.getrandbits(32))))
+        chunk_word=r.choice((0, NONE, lambda: r.getrandbits(32))), pads=random_pads(r))
     if options['version'] == 3:
         options['behind'] = r.random() < .4
     if r.random() < .5:

@@ -3,7 +3,7 @@
 It follows docs/FORMAT.md (Numbers, Names, Chunk, Entries, refusals 8 to 12)
 with plain lists and unbounded numbers, and shares no code with the library.
 
-  encode, decode                 ENCINTs
+  encode, decode, padded         ENCINTs
   compare                        the order of names
   listing_entry, index_entry     the bytes of one entry
   build_listing, build_index     the bytes of one chunk, good or damaged
@@ -20,7 +20,7 @@ HEADER = {LISTING: 20, INDEX: 8}
 # Numbers
 
 def encode(value):
-    """The ENCINT of a value, in its only (shortest) form."""
+    """The ENCINT of a value in its short form."""
     if not 0 <= value < 1 << 63:
         raise ValueError('no ENCINT for %d' % value)
     groups = [value & 0x7F]
@@ -31,9 +31,16 @@ def encode(value):
     return bytes(reversed(groups))
 
 
+def padded(value, pad):
+    """The ENCINT of a value behind so many bytes 80, or as many as the nine
+    bytes of N3 leave room for (N4)."""
+    short = encode(value)
+    return b'\x80' * min(pad, 9 - len(short)) + short
+
+
 def decode(data, at=0, end=None):
     """(value, bytes taken) of the ENCINT at a place, looking at no byte from
-    `end` on; None where there is none."""
+    `end` on; None where there is none. Leading bytes 80 are taken with it."""
     if end is None:
         end = len(data)
     value = 0
@@ -41,8 +48,6 @@ def decode(data, at=0, end=None):
         if at + taken > end:
             return None
         byte = data[at + taken - 1]
-        if taken == 1 and byte == 0x80:
-            return None
         value = value * 128 + byte % 128
         if byte < 0x80:
             return value, taken
@@ -78,13 +83,17 @@ def quick_count(c, density):
 
 # Building
 
-def listing_entry(name, section=0, offset=0, length=0):
-    return (encode(len(name)) + bytes(name) + encode(section)
-            + encode(offset) + encode(length))
+def listing_entry(name, section=0, offset=0, length=0, pads=(0, 0, 0, 0)):
+    """The bytes of an entry; `pads` are the bytes 80 in front of each number."""
+    return _entry_bytes(name, (section, offset, length), pads)
 
 
-def index_entry(name, child=0):
-    return encode(len(name)) + bytes(name) + encode(child)
+def index_entry(name, child=0, pads=(0, 0)):
+    return _entry_bytes(name, (child,), pads)
+
+
+def _entry_bytes(name, numbers, pads):
+    return padded(len(name), pads[0]) + bytes(name) + b''.join(map(padded, numbers, pads[1:]))
 
 
 def build_listing(entries, density, prev=NONE, next=NONE, word=0, **damage):
@@ -154,7 +163,7 @@ def _build(tag, middle, raw, density, tail=None, slack=0, count=None,
 # Judging
 
 def _entry(chunk, at, end, kind, count, content):
-    """((place, name place, name, numbers..), next place) or None."""
+    """(place, name place, name, numbers.., place behind it) or None."""
     got = decode(chunk, at, end)
     if got is None:
         return None
@@ -176,7 +185,7 @@ def _entry(chunk, at, end, kind, count, content):
             return None
     elif numbers[0] >= count:
         return None
-    return (at, name_at, name) + tuple(numbers), next_at
+    return (at, name_at, name, *numbers, next_at)
 
 
 def verdict(chunk, density, count, content):
@@ -199,8 +208,8 @@ def verdict(chunk, density, count, content):
         got = _entry(chunk, at, end, kind, count, content)
         if got is None:
             return 'refused', 10
-        entries.append(got[0])
-        at = got[1]
+        entries.append(got)
+        at = got[-1]
     if at != end:
         return 'refused', 10
     for before, after in zip(entries, entries[1:]):
@@ -241,16 +250,27 @@ def nth(entries, k):
 
 # Self-test: known values and random chunks
 
-def _self_test(rounds=3000, seed=7):
-    import random
-    r = random.Random(seed)
+def _known_numbers():
+    """N9 and N10."""
     h = bytes.fromhex
     for text, value in (('00', 0), ('7f', 127), ('8100', 128), ('ea15', 13589),
                         ('ff7f', 16383), ('818000', 16384),
                         ('ff' * 8 + '7f', 2 ** 63 - 1)):
         assert decode(h(text)) == (value, len(text) // 2) and encode(value) == h(text)
-    for text in ('8001', 'ff' * 9 + '7f', '', '81', '80'):
+    for text, value in (('8001', 1), ('8000', 0), ('808100', 128), ('80' * 8 + '01', 1), ('80' * 8 + '00', 0),
+                        ('8080ea15', 13589), ('80' * 7 + 'ff7f', 16383)):
+        assert decode(h(text)) == (value, len(text) // 2)
+        assert padded(value, len(text) // 2 - len(encode(value))) == h(text)
+    for text in ('80' * 9 + '01', '80' * 8 + '8100', 'ff' * 9 + '7f', '', '81', '80', '80' * 8, '80' * 9):
         assert decode(h(text)) is None
+    assert decode(h('80018001'), 2) == (1, 2) and decode(h('800180'), 2) is None and decode(h('8001'), 0, 1) is None
+    assert padded(128, 9) == h('80' * 7 + '8100') and padded(2 ** 63 - 1, 1) == encode(2 ** 63 - 1)
+
+
+def _self_test(rounds=3000, seed=7):
+    import random
+    r = random.Random(seed)
+    _known_numbers()
     assert compare(b'/A', b'/a') == 0 and compare(b'/a', b'/a.htm') == -1
     assert compare(b'/[', b'/Z') == -1 and compare(b'/Z', b'/[') == 1
     assert [quick_count(c, 2) for c in (1, 5, 6, 10, 11, 16)] == [0, 0, 1, 1, 2, 3]
@@ -265,22 +285,26 @@ def _self_test(rounds=3000, seed=7):
             names.append(bytes(r.choice(b'/aAbBzZ[`{.\x00\x80\xff') for _ in range(size)))
         names.sort(key=lambda s: bytes(fold(b) for b in s))
         kept, room = [], CHUNK - 40
+        pads = r.choice((((0, 0, 0, 0),), [[r.choice((0, 1, 8)) for _ in range(4)] for _ in range(9)]))
         for s in names:
-            need = len(s) + 2 + 3 + 9 + 9 + 1
+            need = len(s) + (1 + 4 * 9 if len(pads) > 1 else 2 + 3 + 9 + 9 + 1)
             if need <= room and not (kept and compare(kept[-1], s) == 0):
                 kept.append(s)
                 room -= need
         if listing:
             tuples = [(s, r.choice((1, 65535)), r.getrandbits(63), r.getrandbits(r.choice((1, 7, 63))))
                       if r.random() < .6 else (s, 0, r.randint(0, 50), r.randint(0, 50)) for s in kept]
-            chunk = build_listing(tuples, density, 3, 9, r.getrandbits(32), fill=r.randbytes)
+            raw = [listing_entry(*e, r.choice(pads)) for e in tuples]
+            chunk = build_listing(raw, density, 3, 9, r.getrandbits(32), fill=r.randbytes)
         else:
             tuples = [(s, r.randint(0, 299)) for s in kept]
-            chunk = build_index(tuples, density, fill=r.randbytes)
+            raw = [index_entry(*e, r.choice(pads)) for e in tuples]
+            chunk = build_index(raw, density, fill=r.randbytes)
         good = verdict(chunk, density, 300, 100)
         entries = good[-1]
         assert good[0] == ('listing' if listing else 'index'), good
-        assert [(e[2],) + e[3:] for e in entries] == tuples
+        assert [e[2:-1] for e in entries] == tuples
+        assert [chunk[e[0]:e[-1]] for e in entries] == raw
         assert all(chunk[e[1]:e[1] + len(e[2])] == e[2] for e in entries)
         s = r.choice(kept)
         assert find(entries, s.swapcase())[2] == s and choose(entries, s)[2] == s

@@ -199,10 +199,6 @@ def names():
 
 
 def numbers():
-    case('name length 80 02', 'N4', listing([one(size=b'\x80\x02')]), 10)
-    case('section 80 00', 'N4', listing([one(section=b'\x80\x00')]), 10)
-    case('offset 80 01', 'N4', listing([one(offset=b'\x80\x01')]), 10)
-    case('length 80 01', 'N4', listing([one(length=b'\x80\x01')]), 10)
     nine, ten = b'\xff' * 8 + b'\x7f', b'\xff' * 9 + b'\x7f'
     case('offset of nine bytes, 2^63 - 1, section 1', 'N3', listing([one(section=b'\x01', offset=nine)]), L(1))
     case('offset of nine bytes, 2^56, section 1', 'N3',
@@ -221,6 +217,37 @@ def numbers():
              'E6, N7', listing([(b'/a', 0, offset, length)]), answer)
     case('section 1, offset 6, length 0', 'E6', listing([(b'/a', 1, 6, 0)]), L(1))
     case('only the last of 6 entries beyond the content', 'E6', listing(mixed(5) + [(b'/zz', 0, 3, 3)]), 10)
+
+
+def padding():
+    for pad, told, row, answer in ((1, '80', 'N4', L(1)), (8, 'eight 80 and', 'N4', L(1)), (9, 'nine 80 and', 'N3', 10)):
+        front = b'\x80' * pad
+        case('name length %s 02' % told, row, listing([one(size=front + b'\x02')]), answer)
+        case('section %s 00' % told, row, listing([one(section=front + b'\x00')]), answer)
+        case('offset %s 01' % told, row, listing([one(offset=front + b'\x01')]), answer)
+        case('length %s 01' % told, row, listing([one(length=front + b'\x01')]), answer)
+    case('offset 80 81 00, 128, section 1', 'N4', listing([one(section=b'\x01', offset=b'\x80\x81\x00')]), L(1))
+    case('offset 80 and a number of nine bytes, section 1', 'N3', listing([one(section=b'\x01', offset=b'\x80' + encode(TOP))]), 10)
+    case('name length 80 at the end of the space', 'N6, C3', listing([b'\x80']), 10)
+    case('length 80 at the end of the space', 'N6, C3', listing([one(length=b'\x80')]), 10)
+    case('length 80, its 01 in the tail', 'N6, C3', listing([one(length=b'\x80')], gap=b'\x01'), 10)
+    case('name length 80 00', 'N4, E4', listing([one(b'', size=b'\x80\x00')]), 10)
+    case('name length 80 88 01, 1,025 bytes', 'N4, E4', listing([one(name(1, 1025), size=b'\x80\x88\x01')]), 10)
+    case('section 80 84 80 00, 65,536', 'N4, E5', listing([one(section=b'\x80\x84\x80\x00')]), 10)
+    case('section 0, offset 80 03, length 80 03', 'N4, E6', listing([one(offset=b'\x80\x03', length=b'\x80\x03')]), 10)
+
+
+def padded_words():
+    """Padding in front of an entry moves it, and its quick word with it."""
+    pads = [(i % 3, i % 2, i % 4, 0) for i in range(16)]
+    raw = [listing_entry(*e, p) for e, p in zip(mixed(16), pads)]
+    short = offsets([listing_entry(*e) for e in mixed(16)])
+    for c in (6, 11, 16):
+        case('%s, padded' % of(c), 'N4, C8', listing(raw[:c]), L(c))
+        case('%s, padded, words of the short forms' % of(c), 'N4, C8', listing(raw[:c], words=short[5:c:5]), 11)
+    case('only entry 5 padded, in its name length', 'N4, C8',
+         listing([listing_entry(*e, (8 * (i == 5), 0, 0, 0)) for i, e in enumerate(mixed(6))], words=short[5:6]), L(6))
+    case('padded names that fall', 'N4, C12', listing([one(b'/b', size=b'\x80\x02'), one(b'/a', size=b'\x80\x02')]), 12)
 
 
 def order():
@@ -270,7 +297,6 @@ def index_chunks():
     case('index: child 3', 'E7', index([(b'/a', 3)]), 10)
     case('index: child 2^32', 'E7', index([(b'/a', 1 << 32)]), 10)
     case('index: child 2^63 - 1', 'E7', index([(b'/a', TOP)]), 10)
-    case('index: child 80 01', 'N4', index([leaf(child=b'\x80\x01')]), 10)
     case('index: child of ten bytes', 'N3', index([leaf(child=b'\xff' * 9 + b'\x7f')]), 10)
     case('index: two entries with one child', 'E7', index([(b'/a', 1), (b'/b', 1)]), I(2))
     case('index: only the last of 6 children too high', 'E7', index(pages(5) + [(b'/zz', 3)]), 10)
@@ -301,6 +327,19 @@ def index_chunks():
     case('index: order and quick word wrong', 'RO2', index(ten, swap=(8, 9), words=[1]), 12)
     case('index: order and a child wrong', 'RO2', index(ten + [(b'/zz', 3)], swap=(0, 1)), 10)
     case('index: tag and tail length wrong', 'RO2', index(ten, tail=0, as_tag=b'PMGK'), 8)
+
+
+def padded_children():
+    case('index: child 80 01', 'N4', index([leaf(child=b'\x80\x01')]), I(1))
+    case('index: child eight 80 and 02', 'N4', index([leaf(child=b'\x80' * 8 + b'\x02')]), I(1))
+    case('index: child nine 80 and 01', 'N3', index([leaf(child=b'\x80' * 9 + b'\x01')]), 10)
+    case('index: child 80 03', 'N4, E7', index([leaf(child=b'\x80\x03')]), 10)
+    case('index: child 80 at the end of the space', 'N6, C3', index([leaf(child=b'\x80')]), 10)
+    case('index: name length 80 02', 'N4', index([leaf(size=b'\x80\x02')]), I(1))
+    raw = [index_entry(*e, (i % 3, i % 2)) for i, e in enumerate(pages(11))]
+    short = offsets([index_entry(*e) for e in pages(11)])
+    case('index: 11 entries, padded', 'N4, C8, C13', index(raw), I(11))
+    case('index: 11 entries, padded, words of the short forms', 'N4, C8, C13', index(raw, words=short[5::5]), 11)
 
 
 def of(c):
@@ -334,7 +373,8 @@ def searches(answer):
 
 def made():
     """The chunks, the report's output and the table of cases; ends with a message where the model differs from an answer set by hand."""
-    for group in (good_chunks, quick_words, tails, filling, names, numbers, order, several, tags, index_chunks):
+    for group in (good_chunks, quick_words, tails, filling, names, numbers, padding, padded_words, order, several, tags, index_chunks,
+                  padded_children):
         group()
     wrong = 0
     lines = []

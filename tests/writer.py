@@ -37,7 +37,8 @@ def u64(*numbers):
 # Numbers and entries
 
 def encint(value):
-    """Seven bits a byte, the highest first, bit 7 set in all but the last."""
+    """Seven bits a byte, the highest first, bit 7 set in all but the last; no
+    leading 80 (W3)."""
     out = bytes([value % 128])
     while value >= 128:
         value //= 128
@@ -50,12 +51,10 @@ def entry(name, section, offset, length):
 
 
 def number(data, at):
-    """(value, place behind it) of the ENCINT at a place; None by N3, N4 and N6."""
+    """(value, place behind it) of the ENCINT at a place; None by N3 and N6."""
     value = 0
     for place in range(at, min(at + 9, len(data))):
         byte = data[place]
-        if place == at and byte == 0x80:
-            return None
         if byte < 128:
             return value * 128 + byte, place + 1
         value = value * 128 + byte - 128
@@ -64,7 +63,7 @@ def number(data, at):
 
 def parsed(data, content_length):
     """The entries of these bytes, or None where one is not whole and good (E3
-    to E6) or its name does not rise."""
+    to E6), not in the short form or its name does not rise (W2)."""
     out, at, before = [], 0, b''
     while at < len(data):
         begin, got = at, number(data, at)
@@ -83,6 +82,8 @@ def parsed(data, content_length):
             at = got[1]
         section, offset, length = told
         if section > 65535 or section == 0 and offset + length > content_length:
+            return None
+        if data[begin:at] != entry(name, *told):    # a number is padded
             return None
         folded = name.translate(FOLDED)
         if folded <= before:            # no name is empty, so the first one rises

@@ -1,17 +1,18 @@
 -- A chunk that has its 4,096 bytes lies inside the file, and what was read in it is reported as its entry says; a record that can be asked has few chunks and
 -- levels.
 -- Assumes nothing.
-use mathlib.Core.Path.{_≡_, ap, _∙_}
+use mathlib.Core.Path.{_≡_, sym, ap, _∙_}
 use mathlib.Core.Bool.{Bool, true, _&&_}
 use mathlib.Core.List.{List}
 use Prim.Native.Nat.{ℕ, _+_, _≤_, _<_}
 use native.Mathlib.Omega.{arith}
 use native.Mathlib.Decide.{decLe}
-use lib.ListN.{length}
-use lib.Dec.{leb}
+use lib.ListN.{length, getD}
+use lib.Dec.{leb, lit<}
 use borrow.Author.Tests.{le-leb, leb-true}
 use Rattle.fields.proofs.Tests.{and-both}
-use Rattle.fields.proofs.Parts.{part-inside, part-outside, length-part}
+use Rattle.fields.specs.Part.{part, partOf}
+use Rattle.fields.proofs.Parts.{length-part, part-inside, part-outside, part-small, part-within}
 use Rattle.entries.specs.declared.Place.{Place}
 use Rattle.chunk.specs.Chunk.{entryOf, isKind}
 use Rattle.chunk.proofs.Accepted.{accepted}
@@ -54,6 +55,23 @@ module _ (s : List ℕ) (r : Record) (c : ℕ) where
   own-entry p e h =
       let i = chunk-inside e in
       rw (le-leb (chunkPlace r c + p .at) (length s) (omega arith))
+
+  -- a part of a chunk is that part of the file
+  pub chunk-part : length (chunkBytes s r c) ≡ 4096 → (at n : ℕ) → at + n ≤ 4096 → partOf s (chunkPlace r c + at) n ≡ part (chunkBytes s r c) at n
+  unfolding chunkBytes
+  chunk-part e at n h =
+      let w = chunk-inside e in
+      part-inside s (chunkPlace r c + at) n (omega arith)
+      ∙ rw (part-inside s (chunkPlace r c) 4096 w) (sym (part-within s (chunkPlace r c) 4096 at n (omega arith)))
+
+  -- what a chunk has are bytes where the file's are
+  pub chunk-small : ((i : ℕ) → getD s i 0 < 256) → (i : ℕ) → getD (chunkBytes s r c) i 0 < 256
+  unfolding chunkBytes
+  chunk-small b i =
+      elim (decLe (chunkPlace r c + 4096) (length s)) [
+        | yes h ↦ rw (part-inside s (chunkPlace r c) 4096 h) (part-small s (chunkPlace r c) 4096 b i)
+        | no h ↦ rw (part-outside s (chunkPlace r c) 4096 (omega arith)) (lit< tt)
+      ]
 
 -- a record that can be asked has few chunks and levels
 pub fits-told : (s : List ℕ) (book : Record) → bookFits s book ≡ true → (book .count ≤ 4096) × (1 ≤ book .depth) × (book .depth ≤ 5)

@@ -5,21 +5,23 @@ use mathlib.Core.Bool.{true}
 use mathlib.Core.List.{List, _∷_}
 use Prim.Native.Nat.{ℕ, zero, suc, _+_, _-_, _≤_, _<_}
 use native.Mathlib.Omega.{arith}
-use lib.ListN.{length, drop}
+use lib.ListN.{length, getD, drop}
 use lib.Seq.{drop-drop}
 use Rattle.fields.specs.Part.{part, partOf}
-use Rattle.fields.proofs.Parts.{part-inside, part-within}
-use Rattle.entries.specs.Entry.{itemAt}
+use Rattle.fields.proofs.Parts.{length-part}
+use Rattle.encint.specs.Encint.{encoded}
+use Rattle.entries.specs.Entry.{itemAt, nameOf}
 use Rattle.entries.specs.declared.Limits.{Limits}
 use Rattle.entries.specs.declared.Place.{Place}
 use Rattle.entries.specs.declared.Item.the-variants.{Good}
 use Rattle.entries.proofs.Laws.{item-inside}
+use Rattle.entries.proofs.Padded.{entry-stands}
 use Rattle.chunk.specs.Chunk.{Entry, all, entryOf, entriesAt, countOf, tailOf, entriesIn}
 use Rattle.chunk.proofs.Accepted.{Accepted, accepted, entries-more, entries-count}
 use Rattle.header.specs.declared.Record.{Record}
 use Rattle.tree.specs.Shape.{isListing}
-use Rattle.book.specs.Book.{limitsOf, chunkPlace, chunkBytes, directoryOf, reportOf, reportAt, ownOf, ownAt}
-use Rattle.book.proofs.Laws.{chunk-inside, chunk-whole, report-entry, own-entry}
+use Rattle.book.specs.Book.{limitsOf, chunkPlace, chunkBytes, directoryOf, reportOf, reportAt, ownOf, ownAt, OwnBytes}
+use Rattle.book.proofs.Laws.{chunk-whole, chunk-part, chunk-small, report-entry, own-entry}
 
 -- ---- entries that are left: those from entry i on
 
@@ -99,13 +101,36 @@ module _ (s : List ℕ) (book : Record) (c : ℕ) (is : isListing (directoryOf s
   -- the own bytes lie in the file, and are those of the chunk from the entry's place to the place behind it
   pub own-stored : (at : ℕ) (e : Place) → itemAt limits true bytes at ≡ Good e
       → partOf s (ownOf book c (entryOf bytes e) .place) (ownOf book c (entryOf bytes e) .length) ≡ part bytes (e .at) (e .next - e .at)
-  unfolding ownOf chunkBytes
+  unfolding ownOf
   own-stored at e h =
       let z = good .size in
       let i = item-inside limits true bytes at e h in
       let m = i .moves in
       let n = i .ends in
       let q = i .same in
-      let w = chunk-inside s book c (chunk-whole s book c true is) in
-      part-inside s (chunkPlace book c + e .at) (e .next - e .at) (omega arith)
-      ∙ rw (part-inside s (chunkPlace book c) 4096 w) (sym (part-within s (chunkPlace book c) 4096 (e .at) (e .next - e .at) (omega arith)))
+      chunk-part s book c z (e .at) (e .next - e .at) (omega arith)
+
+  -- and so with its name
+  name-stored : (at : ℕ) (e : Place) → itemAt limits true bytes at ≡ Good e
+      → partOf s (reportOf book c (entryOf bytes e) .place) (reportOf book c (entryOf bytes e) .length) ≡ nameOf bytes e
+  unfolding reportOf
+  name-stored at e h =
+      let z = good .size in
+      let n = item-inside limits true bytes at e h .name in
+      let l : length (nameOf bytes e) ≡ e .len = length-part bytes (e .start) (e .len) n in
+      ap (partOf s (chunkPlace book c + e .start)) l ∙ chunk-part s book c z (e .start) (e .len) (omega arith)
+
+  -- the own bytes are the name, and around it the numbers that are reported, each in its short form behind bytes 80 or none
+  pub own-padded : ((i : ℕ) → getD s i 0 < 256) → (at : ℕ) (e : Place) → itemAt limits true bytes at ≡ Good e
+      → OwnBytes s (reportOf book c (entryOf bytes e)) (ownOf book c (entryOf bytes e))
+  unfolding itemAt reportOf ownOf
+  own-padded b at e h =
+      let p = entry-stands bytes (chunk-small s book c b) (limits .content) at e h in
+      let n = item-inside limits true bytes at e h .name in
+      let l : length (nameOf bytes e) ≡ e .len = length-part bytes (e .start) (e .len) n in
+      let q : e .start ≡ e .at + (p .0 .ahead + length (encoded (e .len))) = p .1 in
+      let m : length (encoded (length (nameOf bytes e))) ≡ length (encoded (e .len)) = ap (λ (v : ℕ). length (encoded v)) l in
+      record {
+        entry = rw (own-stored at e h, name-stored at e h) (p .0);
+        name = omega arith;
+      }

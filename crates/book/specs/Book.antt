@@ -2,11 +2,14 @@
 -- not lie wholly inside the file has no bytes, and so is no chunk (FORMAT D19, F16, K2, K13).
 -- Assumes nothing.
 use Prim.Native.Nat.{ℕ, _+_, _-_, _*_}
+use mathlib.Core.Path.{_≡_}
 use mathlib.Core.Bool.{Bool, cond, _&&_}
 use mathlib.Core.List.{List}
 use lib.ListN.{length}
 use lib.Dec.{ltb, leb}
 use Rattle.fields.specs.Part.{partOf}
+use Rattle.encint.specs.Encint.{encoded}
+use Rattle.entries.specs.Padded.{PaddedEntry}
 use Rattle.entries.specs.declared.Limits.{Limits}
 use Rattle.entries.specs.declared.Place.{Place}
 use Rattle.chunk.specs.Chunk.{Entry, Parsed, parsed}
@@ -72,7 +75,12 @@ reportAt s r c e =
 unfoldable pub ownOf : Record → ℕ → Entry → Own
 ownOf r c e = record { place = chunkPlace r c + e .at; length = e .next - e .at }
 
--- the same of what was read at a place, 0 for a place that is not inside the file
+-- own bytes beside the numbers that are reported of the entry: its name, and around it those numbers, each in its short form behind bytes 80 or none (K25, N4)
+pub record OwnBytes (s : List ℕ) (r : Report) (o : Own) : Type 0 where
+  pub entry : PaddedEntry (partOf s (o .place) (o .length)) (partOf s (r .place) (r .length)) (r .section) (r .offset) (r .size)
+  pub name : r .place ≡ o .place + (entry .ahead + length (encoded (r .length)))
+
+-- the own bytes of what was read at a place, 0 for a place that is not inside the file
 unfoldable pub ownAt : List ℕ → Record → ℕ → Place → Own
 ownAt s r c e =
     record { place = cond (leb (chunkPlace r c + e .at) (length s)) (chunkPlace r c + e .at) 0; length = e .next - e .at }

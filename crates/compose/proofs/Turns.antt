@@ -10,10 +10,9 @@ use lib.Seq.{sets}
 use Rattle.entries.specs.declared.Place.{Place}
 use Rattle.chunk.specs.Chunk.{headOf}
 use Rattle.chunk.proofs.Frame.{head-small}
-use Rattle.source.specs.Stored.{Stored, storedOf}
+use Rattle.source.specs.Stored.{Stored, storedOf, entryBytes}
 use Rattle.source.specs.Source.{itemFrom, rowsFrom}
 use Rattle.source.proofs.Rows.{run-more}
-use Rattle.pack.specs.Levels.{entryBytes}
 use Rattle.pack.specs.Fill.{rowSize, fitOf, extentFrom}
 use Rattle.pack.specs.declared.Extent.{Extent}
 use Rattle.pack.specs.declared.Fit.the-variants.{Full}

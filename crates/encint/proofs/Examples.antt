@@ -1,4 +1,4 @@
--- Examples of ENCINTs: numbers of one, two, three and nine bytes, and bytes that are refused.
+-- Examples of ENCINTs: numbers of one to nine bytes, with leading bytes 80 and without, and bytes that are refused.
 -- Assumes nothing.
 use mathlib.Core.Path.{_≡_, refl}
 use mathlib.Core.List.{List, [], _∷_, _++_}
@@ -7,24 +7,30 @@ use lib.ListN.{length, replicate}
 use Rattle.encint.specs.Encint.{rest, decoded, encintAt, groups, leading, encoded}
 use Rattle.encint.specs.declared.Number.the-variants.{Value, Bad}
 
--- bytes, and the value they stand for
+-- bytes, the value they stand for, and how many leading bytes 80 they have
 record Example : Type 0 where
   bytes : List ℕ
   value : ℕ
+  padding : ℕ
 
 infix 80 _is_
 abbrev _is_ : List ℕ → ℕ → Example
-l is v = record { bytes = l; value = v }
+l is v = record { bytes = l; value = v; padding = 0 }
 
--- all the bytes are read as the value, and are what is written for it
+abbrev padded : ℕ → Example → Example
+padded k e = record { bytes = e .bytes; value = e .value; padding = k }
+
+-- all the bytes are read as the value, and are the leading bytes 80 and what is written for it
 abbrev Accepted : List Example → Type 0
 Accepted [] = Unit {0}
-Accepted (e ∷ es) = (encintAt (e .bytes) 0 ≡ Value (e .value) (length (e .bytes))) × (encoded (e .value) ≡ e .bytes) × Accepted es
+Accepted (e ∷ es) =
+    (encintAt (e .bytes) 0 ≡ Value (e .value) (length (e .bytes))) × (e .bytes ≡ replicate (e .padding) 128 ++ encoded (e .value)) × Accepted es
 
 abbrev Refused : List (List ℕ) → Type 0
 Refused [] = Unit {0}
 Refused (l ∷ ls) = (encintAt l 0 ≡ Bad) × Refused ls
 
+-- N9
 pub accepted :
     Accepted
     ((0x00 ∷ []) is 0
@@ -34,10 +40,44 @@ pub accepted :
     ∷ (0xFF ∷ 0x7F ∷ []) is 16383
     ∷ (0x81 ∷ 0x80 ∷ 0x00 ∷ []) is 16384
     ∷ (replicate 8 0xFF ++ (0x7F ∷ [])) is (2 ^ 63 - 1)
+    ∷ padded 1 ((0x80 ∷ 0x01 ∷ []) is 1)
+    ∷ padded 1 ((0x80 ∷ 0x00 ∷ []) is 0)
+    ∷ padded 1 ((0x80 ∷ 0x81 ∷ 0x00 ∷ []) is 128)
+    ∷ padded 8 ((replicate 8 0x80 ++ (0x01 ∷ [])) is 1)
+    ∷ padded 8 ((replicate 8 0x80 ++ (0x00 ∷ [])) is 0)
     ∷ [])
 unfolding rest decoded encintAt groups leading encoded
-accepted = (refl, refl, (refl, refl, (refl, refl, (refl, refl, (refl, refl, (refl, refl, (refl, refl, tt)))))))
+accepted = (
+  refl,
+  refl,
+  (
+    refl,
+    refl,
+    (
+      refl,
+      refl,
+      (
+        refl,
+        refl,
+        (
+          refl,
+          refl,
+          (
+            refl,
+            refl,
+            (
+              refl,
+              refl,
+              (refl, refl, (refl, refl, (refl, refl, (refl, refl, (refl, refl, tt))))),
+            ),
+          ),
+        ),
+      ),
+    ),
+  ),
+)
 
-pub refused : Refused ((0x80 ∷ 0x01 ∷ []) ∷ (replicate 9 0xFF ++ (0x7F ∷ [])) ∷ [] ∷ [])
+-- N10
+pub refused : Refused ((replicate 9 0x80 ++ (0x01 ∷ [])) ∷ (replicate 9 0xFF ++ (0x7F ∷ [])) ∷ (0x80 ∷ []) ∷ [] ∷ [])
 unfolding rest decoded encintAt
-refused = (refl, (refl, (refl, tt)))
+refused = (refl, (refl, (refl, (refl, tt))))

@@ -1,19 +1,17 @@
 -- Reading an ENCINT, byte by byte, and the bounds of what is read.
 -- Assumes nothing.
 use mathlib.Core.Path.{_≡_, refl, ap, sym, _∙_}
-use mathlib.Core.Bool.{Bool, true, false, cond}
 use mathlib.Core.List.{List, [], _∷_}
 use Prim.Native.Nat.{ℕ, zero, suc, _+_, _-_, _*_, _%_, _^_, _≤_, _<_}
 use native.Mathlib.Nat.{pow-suc, pow-le-pow-right, le-trans, lt-of-lt-of-le}
 use native.Mathlib.Numerals.{sub-one}
 use native.Mathlib.Decide.{decLt}
 use native.Mathlib.Omega.{arith}
-use lib.Dec.{eqb, lit<, lit≤}
+use lib.Dec.{lit<, lit≤}
 use lib.ListN.{length, getD, drop, length-drop, drop-of-length-le}
-use borrow.Author.Tests.{lt-ltb, le-ltb, eq-eqb, ne-eqb}
+use borrow.Author.Tests.{lt-ltb, le-ltb}
 use Rattle.fields.proofs.Parts.{drop-more}
 use Rattle.encint.specs.Encint.{rest, decoded, encintAt}
-use Rattle.encint.specs.declared.Number.{Number}
 use Rattle.encint.specs.declared.Number.the-variants.{Value, Bad}
 
 -- ---- one byte
@@ -63,34 +61,25 @@ grows n v b p h k =
 pub small : (n v : ℕ) → v < 128 ^ (9 - n) → v < 2 ^ 63
 small n v h = lt-of-lt-of-le h (le-trans (pow-le-pow-right (lit< tt) {j = 9} (omega arith)) (lit≤ tt))
 
--- ---- the first byte
+-- ---- a number at a place
 
 module _ (s : List ℕ) (at : ℕ) where
   pub at-past : length s ≤ at → encintAt s at ≡ Bad
   unfolding encintAt decoded rest
   at-past h = rw (drop-of-length-le s h)
 
-  pub at-refused : at < length s → getD s at 0 ≡ 128 → encintAt s at ≡ Bad
+  pub at-number : encintAt s at ≡ rest 9 0 at (drop at s)
   unfolding encintAt decoded
-  at-refused h e = rw (drop-more s at h, eq-eqb _ _ e)
-
-  pub at-number : at < length s → (getD s at 0 ≡ 128 → ⊥) → encintAt s at ≡ rest 9 0 at (drop at s)
-  unfolding encintAt decoded
-  at-number h e = rw (drop-more s at h, ne-eqb _ _ e)
+  at-number = refl
 
   -- most numbers have one byte
   pub at-one : at < length s → getD s at 0 < 128 → encintAt s at ≡ Value (getD s at 0) (at + 1)
-  at-one h k = at-number h (omega arith) ∙ turn-last s 9 0 at (omega arith) h k ∙ ap (λ (v : ℕ). Value v (at + 1)) (omega arith)
+  at-one h k = at-number ∙ turn-last s 9 0 at (omega arith) h k ∙ ap (λ (v : ℕ). Value v (at + 1)) (omega arith)
 
 -- ---- what a number that was read tells
 
 pub bad-no-value : {X : Type 0} {v p : ℕ} → Bad ≡ Value v p → X
 bad-no-value e = let z : _≡_ {A = ℕ} 0 1 = cc in absurd (omega arith)
-
--- the first byte passed the test
-pub passed : (t : Bool) (r : Number) {v p : ℕ} → cond t Bad r ≡ Value v p → (t ≡ false) × (r ≡ Value v p)
-passed true r e = bad-no-value e
-passed false r e = (refl, e)
 
 -- it takes a byte, and not more than there are or may come; its value is small
 rest-bounds : (n v at : ℕ) (l : List ℕ) {w p : ℕ} → n ≤ 9 → v < 128 ^ (9 - n) → rest n v at l ≡ Value w p
@@ -114,7 +103,7 @@ rest-bounds (suc n) v at (b ∷ l) {w} {p} m k e =
 module _ (s : List ℕ) (at : ℕ) {v p : ℕ} where
   encint-bounds : encintAt s at ≡ Value v p → (at < p) × (p ≤ at + length (drop at s)) × (p ≤ at + 9) × (v < 2 ^ 63)
   unfolding encintAt decoded
-  encint-bounds e = rest-bounds 9 0 at (drop at s) (lit≤ tt) (lit< tt) (passed (eqb (getD (drop at s) 0 0) 128) _ e .1)
+  encint-bounds e = rest-bounds 9 0 at (drop at s) (lit≤ tt) (lit< tt) e
 
   -- the place behind a number lies behind it, inside s and at most nine bytes on
   pub encint-next : encintAt s at ≡ Value v p → (at < p) × (p ≤ length s) × (p ≤ at + 9)

@@ -6,15 +6,14 @@ use Prim.Native.Nat.{ℕ, zero, suc, _+_, _-_, _*_, _/_, _%_, _^_, _≤_, _<_}
 use native.Mathlib.Nat.{pow-suc, zero-add, add-zero}
 use native.Mathlib.Numerals.{sub-one}
 use native.Mathlib.Omega.{arith}
-use lib.ListN.{length, getD, take, drop}
+use lib.ListN.{length, take, drop}
 use lib.Seq.{sets, drop-at, length-take-le}
-use borrow.Author.Tests.{ne-eqb}
 use Rattle.fields.specs.Put.{put}
 use Rattle.fields.proofs.Put.{put-inside, sets-parts}
 use Rattle.encint.specs.Encint.{rest, decoded, encintAt, groups, leading, encoded}
 use Rattle.encint.specs.declared.Number.the-variants.{Value}
 use Rattle.encint.proofs.Reading.{rest-last, rest-more}
-use Rattle.encint.proofs.Writing.{leading-append, encoded-is, length-encoded, Groups, groups-are}
+use Rattle.encint.proofs.Writing.{leading-append, encoded-is, length-encoded, groups-are}
 
 -- ---- reading the leading groups
 
@@ -29,27 +28,12 @@ read-leading (suc n) g w at l h =
     rw (e, read-leading n (suc g) (w / 128) at ((128 + w % 128) ∷ l) (omega arith))
     (rw (rest-more (suc g) (w / 128) (at + n) (128 + w % 128) l (omega arith) (omega arith), d, f, sub-one))
 
--- the first of them is not empty
-first-leading : (n w : ℕ) (l : List ℕ) → 128 ^ n ≤ w → w < 128 ^ suc n → getD (leading (suc n) w l) 0 0 ≡ 128 → ⊥
-unfolding leading
-first-leading zero w l h k e = omega arith
-first-leading (suc n) w l h k e =
-    let h′ : 128 ^ n * 128 ≤ w = rw pow-suc at h in
-    let k′ : w < 128 ^ suc n * 128 = rw pow-suc at k in
-    first-leading n (w / 128) ((128 + w % 128) ∷ l) (omega arith) (omega arith) e
-
-first-byte : (m w k b : ℕ) (l : List ℕ) → Groups m w k → b < 128 → getD (leading k w (b ∷ l)) 0 0 ≡ 128 → ⊥
-unfolding leading
-first-byte m w zero b l r h e = omega arith
-first-byte m w (suc k) b l r h e = first-leading k w (b ∷ l) (r .top k refl) (r .all) e
-
 -- at most eight leading groups, and the last byte
-read-all : (w k b at : ℕ) (t : List ℕ) → Groups 8 w k → b < 128 → rest 9 0 at (leading k w (b ∷ t)) ≡ Value (w * 128 + b % 128) (at + k + 1)
-read-all w k b at t r l =
-    let m : k ≤ 8 = r .few in
+pub read-all : (w k b at : ℕ) (t : List ℕ) → k ≤ 8 → w < 128 ^ k → b < 128 → rest 9 0 at (leading k w (b ∷ t)) ≡ Value (w * 128 + b % 128) (at + k + 1)
+read-all w k b at t m h l =
     let e : 9 ≡ k + (9 - k) = omega arith in
     ap (λ (n : ℕ). rest n 0 at (leading k w (b ∷ t))) e
-    ∙ read-leading k (9 - k) w at (b ∷ t) (r .all)
+    ∙ read-leading k (9 - k) w at (b ∷ t) h
     ∙ rest-last (9 - k) w (at + k) b t (omega arith) l
 
 -- ---- a value
@@ -62,8 +46,7 @@ module _ (v : ℕ) (h : v < 2 ^ 63) where
       let k : ℕ = groups 8 (v / 128) in
       let r = groups-are 8 (v / 128) (omega arith) in
       let e : encoded v ++ t ≡ leading k (v / 128) (v % 128 ∷ t) = rw (encoded-is v h, leading-append) in
-      rw (e, ne-eqb _ _ (first-byte 8 (v / 128) k (v % 128) t r (omega arith)))
-      (read-all (v / 128) k (v % 128) at t r (omega arith) ∙ ap₂ Value (omega arith) (omega (arith, length-encoded v h)))
+      rw e (read-all (v / 128) k (v % 128) at t (r .few) (r .all) (omega arith) ∙ ap₂ Value (omega arith) (omega (arith, length-encoded v h)))
 
   -- between other bytes
   pub encint-encoded : (p t : List ℕ) → encintAt (p ++ (encoded v ++ t)) (length p) ≡ Value v (length p + length (encoded v))

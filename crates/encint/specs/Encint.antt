@@ -1,10 +1,10 @@
--- ENCINT: seven bits a byte, most significant first; the high bit says that a byte follows. One to nine bytes, so a value is below 2 ^ 63;
--- a first byte of 80 hex is refused, so a value has one encoding (FORMAT, Numbers).
+-- ENCINT: seven bits a byte, most significant first; the high bit says that a byte follows. One to nine bytes, so a value is below 2 ^ 63.
+-- A leading 80 hex is seven zero bits; what is written has none (FORMAT, Numbers).
 -- Assumes nothing.
 use Prim.Native.Nat.{ℕ, zero, suc, _+_, _*_, _/_, _%_, _^_}
 use mathlib.Core.Bool.{cond}
 use mathlib.Core.List.{List, [], _∷_}
-use lib.ListN.{getD, drop}
+use lib.ListN.{drop}
 use lib.Dec.{ltb, eqb}
 use Rattle.encint.specs.declared.Number.{Number}
 use Rattle.encint.specs.declared.Number.the-variants.{Value, Bad}
@@ -22,7 +22,7 @@ rest (suc n) v at (b ∷ l) =
 
 -- the number that begins l, which stands at the place `at`
 unfoldable pub decoded : ℕ → List ℕ → Number
-decoded at l = cond (eqb (getD l 0 0) 128) Bad (rest 9 0 at l)
+decoded at l = rest 9 0 at l
 
 -- the number that stands in s at `at`, not past the end of s
 unfoldable pub encintAt : List ℕ → ℕ → Number
@@ -40,6 +40,6 @@ unfoldable pub leading : ℕ → ℕ → List ℕ → List ℕ
 leading zero w l = l
 leading (suc n) w l = leading n (w / 128) ((128 + w % 128) ∷ l)
 
--- the bytes of v; none for 2 ^ 63 and above
+-- the bytes of v, its short form; none for 2 ^ 63 and above
 unfoldable pub encoded : ℕ → List ℕ
 encoded v = cond (ltb v (2 ^ 63)) (leading (groups 8 (v / 128)) (v / 128) (v % 128 ∷ [])) []

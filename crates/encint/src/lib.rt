@@ -1,4 +1,4 @@
-// ENCINT: a number of seven bits a byte, most significant first.
+// ENCINT: a number of seven bits a byte, most significant first. Leading bytes of 80 hex are read as zero bits; none are written.
 ghost use mathlib.Core.Path.{_≡_};
 ghost use mathlib.Core.Bool.{cond};
 ghost use mathlib.Core.List.{_++_};
@@ -7,6 +7,7 @@ ghost use lib.ListN.{length, take, drop};
 ghost use Rattle.fields.specs.Part.{inside};
 ghost use Rattle.fields.specs.Put.{put};
 ghost use Rattle.encint.specs.Encint.{rest, encintAt, leading, encoded};
+ghost use Rattle.encint.specs.Padded.{ReadExact};
 
 // A number that was read, with the place behind it.
 pub enum Number {
@@ -27,7 +28,7 @@ fn reach(len: usize, at: usize) -> usize
     at + 9
 }
 
-// The number at `at`, whatever its first byte is.
+// The number at `at`, of any length up to nine bytes.
 fn groups_at(s: &[u8], at: usize) -> Number
     ensures { λ r. ⌜ r ≡ rest 9 0 at (drop at (now (s .entry))) ⌝ }
 {
@@ -47,7 +48,8 @@ fn groups_at(s: &[u8], at: usize) -> Number
 
 // The number at `at`, not past the end of s. Most numbers of a directory have one byte, so that case comes first.
 pub fn read(s: &[u8], at: usize) -> Number
-    ensures { λ r. ⌜ r ≡ encintAt (now (s .entry)) at ⌝ }
+    ensures number { λ r. ⌜ r ≡ encintAt (now (s .entry)) at ⌝ }
+    ensures exact { λ r. ⌜ ReadExact (now (s .entry)) at r ⌝ }
 {
     if s.len() <= at {
         return Number::Bad;
@@ -55,9 +57,6 @@ pub fn read(s: &[u8], at: usize) -> Number
     let b = s[at];
     if b < 128 {
         return Number::Value(b as u64, at + 1);
-    }
-    if b == 128 {
-        return Number::Bad;
     }
     groups_at(s, at)
 }

@@ -1,4 +1,4 @@
--- What an entry that was read is known to be: it stands at its place, it and its name lie inside the chunk, and its numbers keep the rules.
+-- What an entry that was read is known to be: where each of its numbers stands; that it and its name lie inside the chunk, and its numbers keep the rules.
 -- Assumes nothing.
 use mathlib.Core.Path.{_≡_, refl, sym, ap₂, subst, _∙_}
 use mathlib.Core.List.{List}
@@ -8,7 +8,8 @@ use native.Mathlib.Omega.{arith}
 use borrow.Author.Tests.{ltb-true, leb-true, lt-ltb, le-ltb}
 use lib.ListN.{length}
 use lib.Dec.{ltb, leb}
-use Rattle.fields.specs.Part.{part}
+use Rattle.fields.specs.Part.{inside, part}
+use Rattle.fields.proofs.Tests.{and-both}
 use Rattle.encint.specs.Encint.{encintAt}
 use Rattle.encint.specs.declared.Number.{Number}
 use Rattle.encint.specs.declared.Number.the-variants.{Value, Bad}
@@ -31,6 +32,14 @@ number-there (Value v p) d f a no-d e = (v, p, refl, e)
 test-passed : {A : Type 0} (t : Bool) (x d a : A) → (d ≡ a → ⊥) → cond t x d ≡ a → x ≡ a
 test-passed true x d a no-d e = e
 test-passed false x d a no-d e = absurd (no-d e)
+
+-- a name's length is an ENCINT
+pub name-number : (s : List ℕ) (at n p : ℕ) → nameAt s at ≡ Value n p → encintAt s at ≡ Value n p
+unfolding nameAt
+name-number s at n p e =
+    let r = number-there _ _ _ _ bad-no-value e in
+    let t = ltb 0 (r .0) && (leb (r .0) 1024 && inside s (r .1) (r .0)) in
+    r .2 ∙ test-passed t (Value (r .0) (r .1)) Bad (Value n p) bad-no-value (r .3)
 
 pub name-next : (s : List ℕ) (at n p : ℕ) → nameAt s at ≡ Value n p → (0 < n) × (n ≤ 1024) × (p + n ≤ length s) × (at < p)
 unfolding nameAt
@@ -62,20 +71,55 @@ good-same x e q = cc
 inside-of : (s : List ℕ) (at : ℕ) (t : Bool) (x e : Place) → cond t (Good x) Item.Bad ≡ Good e → Inside s at x → Inside s at e
 inside-of s at t x e q h = subst (Inside s at) (good-same x e (test-passed t (Good x) Item.Bad (Good e) not-good q)) h
 
-listing-inside : (content : ℕ) (s : List ℕ) (at : ℕ) (e : Place) → listingAt content s at ≡ Good e → Inside s at e
+-- a listing entry apart: each of its numbers where it was read, and the tests that it passed
+pub record Apart (content : ℕ) (s : List ℕ) (at : ℕ) (e : Place) : Type 0 where
+  pub p₁ : ℕ
+  pub p₂ : ℕ
+  pub same : e .at ≡ at
+  pub name : nameAt s at ≡ Value (e .len) (e .start)
+  pub section : encintAt s (e .start + e .len) ≡ Value (e .section) p₁
+  pub offset : encintAt s p₁ ≡ Value (e .offset) p₂
+  pub size : encintAt s p₂ ≡ Value (e .size) (e .next)
+  pub numbered : leb (e .section) 65535 ≡ true
+  pub within : (ltb 0 (e .section) || leb (e .offset + e .size) content) ≡ true
+  pub childless : e .child ≡ 0
+
+test-true : {A : Type 0} (t : Bool) (x d a : A) → (d ≡ a → ⊥) → cond t x d ≡ a → t ≡ true
+test-true true x d a no-d e = refl
+test-true false x d a no-d e = absurd (no-d e)
+
+pub listing-apart : (content : ℕ) (s : List ℕ) (at : ℕ) (e : Place) → listingAt content s at ≡ Good e → Apart content s at e
 unfolding listingAt
-listing-inside content s at e q =
+listing-apart content s at e q =
     let n = number-there _ _ _ _ not-good q in
     let a = number-there _ _ _ _ not-good (n .3) in
     let b = number-there _ _ _ _ not-good (a .3) in
     let d = number-there _ _ _ _ not-good (b .3) in
-    let hn = name-next s at (n .0) (n .1) (n .2) in
-    let ha = encint-next s (n .1 + n .0) (a .2) in
-    let hb = encint-next s (a .1) (b .2) in
-    let hd = encint-next s (b .1) (d .2) in
-    inside-of s at (leb (a .0) 65535 && (ltb 0 (a .0) || leb (b .0 + d .0) content))
-    (record { at = at; start = n .1; len = n .0; section = a .0; offset = b .0; size = d .0; child = 0; next = d .1 }) e (d .3)
-    (record { same = refl; read = n .2; name = omega arith; some = omega arith; moves = omega arith; ends = omega arith })
+    let t = leb (a .0) 65535 && (ltb 0 (a .0) || leb (b .0 + d .0) content) in
+    let x : Place = record { at = at; start = n .1; len = n .0; section = a .0; offset = b .0; size = d .0; child = 0; next = d .1 } in
+    let both = and-both (leb (a .0) 65535) (ltb 0 (a .0) || leb (b .0 + d .0) content) (test-true t (Good x) Item.Bad (Good e) not-good (d .3)) in
+    subst (Apart content s at) (good-same x e (test-passed t (Good x) Item.Bad (Good e) not-good (d .3)))
+    (record {
+      p₁ = a .1;
+      p₂ = b .1;
+      same = refl;
+      name = n .2;
+      section = a .2;
+      offset = b .2;
+      size = d .2;
+      numbered = both .0;
+      within = both .1;
+      childless = refl;
+    })
+
+pub listing-inside : (content : ℕ) (s : List ℕ) (at : ℕ) (e : Place) → listingAt content s at ≡ Good e → Inside s at e
+listing-inside content s at e q =
+    let a = listing-apart content s at e q in
+    let hn = name-next s at (e .len) (e .start) (a .name) in
+    let ha = encint-next s (e .start + e .len) (a .section) in
+    let hb = encint-next s (a .p₁) (a .offset) in
+    let hd = encint-next s (a .p₂) (a .size) in
+    record { same = a .same; read = a .name; name = omega arith; some = omega arith; moves = omega arith; ends = omega arith }
 
 index-inside : (count : ℕ) (s : List ℕ) (at : ℕ) (e : Place) → indexAt count s at ≡ Good e → Inside s at e
 unfolding indexAt

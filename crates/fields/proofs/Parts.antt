@@ -5,8 +5,10 @@ use mathlib.Core.List.{List, [], _∷_, _++_}
 use Prim.Native.Nat.{ℕ, zero, suc, _+_, _≤_, _<_}
 use native.Mathlib.Nat.{zero-add, suc-add}
 use native.Mathlib.Numerals.{add-one}
+use native.Mathlib.Decide.{decLt}
 use native.Mathlib.Omega.{arith}
-use lib.ListN.{length, getD, take, drop, length-drop, take-append-drop, List·getD-eq-default}
+use lib.Dec.{lit<}
+use lib.ListN.{length, getD, take, drop, length-take, length-drop, take-append-drop, List·getD-eq-default}
 use lib.Seq.{drop-cons, drop-drop, getD-take, getD-drop, length-take-le, take-nil, take-add, take-take, take-append-seam, drop-at}
 use borrow.Author.Tests.{le-leb, lt-leb}
 use Rattle.fields.specs.Part.{part, partOf}
@@ -25,6 +27,13 @@ module _ (s : List ℕ) (at n : ℕ) where
 
   pub getD-part : (i : ℕ) → i < n → getD (part s at n) i 0 ≡ getD s (at + i) 0
   getD-part i h = rw (getD-take, getD-drop)
+
+  pub part-small : ((i : ℕ) → getD s i 0 < 256) → (i : ℕ) → getD (part s at n) i 0 < 256
+  part-small b i =
+      elim (decLt i n) [
+        | yes h ↦ rw (getD-part i h) (b (at + i))
+        | no h ↦ rw (past (part s at n) i (omega (arith, length-take n (drop at s)))) (lit< tt)
+      ]
 
   pub part-inside : at + n ≤ length s → partOf s at n ≡ part s at n
   unfolding partOf

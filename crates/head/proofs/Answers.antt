@@ -5,7 +5,7 @@ use mathlib.Core.Bool.{Bool, true, false, _&&_}
 use mathlib.Core.List.{List, [], _++_, map, flatten, append-assoc}
 use Prim.Native.Nat.{ℕ, _+_, _-_, _*_, _^_, _≤_, _<_, min}
 use native.Mathlib.Omega.{arith}
-use lib.ListN.{length, take, drop, length-append, length-map}
+use lib.ListN.{length, getD, take, drop, length-append, length-map}
 use lib.Seq.{sets, take-at}
 use lib.Dec.{ltb, leb}
 use borrow.Author.Tests.{le-leb, lt-leb, leb-true}
@@ -14,6 +14,7 @@ use Rattle.fields.proofs.Tests.{and-both, and-no}
 use Rattle.chunk.specs.Chunk.{spacingOf}
 use Rattle.source.specs.Stored.{Stored, storedOf}
 use Rattle.source.specs.Input.{given, inputRight}
+use Rattle.source.proofs.Unpadded.{input-bytes}
 use Rattle.pack.specs.Levels.{level}
 use Rattle.pack.specs.Starts.{chunksFrom}
 use Rattle.pack.proofs.Levels.{chunks-given}
@@ -24,7 +25,7 @@ use Rattle.layout.proofs.Small.{small-is}
 use Rattle.layout.proofs.Cut.{Cut, takes-told}
 use Rattle.roundtrip.specs.RoundTrip.{newBook, RoundTrip}
 use Rattle.roundtrip.proofs.RoundTrips.{round-trip}
-use Rattle.head.specs.Head.{refusal, written, outputFor, Worth}
+use Rattle.head.specs.Head.{refusal, written, outputFor, Worth, ShortInput}
 use Rattle.head.specs.Plan.{limits, Made, LevelFits, IndexFits, indexOf, headersOf, Ready}
 use Rattle.head.specs.declared.Written.{Written}
 use Rattle.head.specs.declared.Written.the-variants.{Length}
@@ -126,6 +127,9 @@ module _ (density content : ℕ) (s : List ℕ) where
   pub takes-right : inputRight content s ≡ false → takes density content s ≡ false
   takes-right h = rw (takes-is, h) (and-no (limits density content))
 
+  takes-input : takes density content s ≡ true → inputRight content s ≡ true
+  takes-input h = and-both (limits density content) (inputRight content s) (sym takes-is ∙ h) .1
+
 -- a density that is taken is not cut
 pub spacing-is : (density n : ℕ) → density ≤ 7 → n ≡ spacingOf (min density 16) → n ≡ spacingOf density
 spacing-is density n h e = let d : min density 16 ≡ density = omega arith in e ∙ ap spacingOf d
@@ -140,20 +144,20 @@ module _ (s : List ℕ) (density time language content : ℕ) (out : List ℕ) w
   head = headBytes density time language content (layoutFor density content s)
 
   abbrev Answers : Written → List ℕ → Type 0
-  Answers r o = (r ≡ written s density content room) × ((o ≡ outputFor r head out) × Worth r density time language content s o)
+  Answers r o = (r ≡ written s density content room) × ((o ≡ outputFor r head out) × (Worth r density time language content s o × ShortInput r content s))
 
   pub answer-18 : (r : Written) → r ≡ refusal 18 → takes density content s ≡ false → Answers r out
   unfolding written
-  answer-18 r e h = rw e (rw h, (refl, tt))
+  answer-18 r e h = rw e (rw h, (refl, (tt, tt)))
 
   pub answer-19 : (r : Written) → r ≡ refusal 19 → takes density content s ≡ true → smallEnough (layoutFor density content s) ≡ false → Answers r out
   unfolding written
-  answer-19 r e h k = rw e (rw (h, k), (refl, tt))
+  answer-19 r e h k = rw e (rw (h, k), (refl, (tt, tt)))
 
   module _ (h : takes density content s ≡ true) (small : smallEnough (layoutFor density content s) ≡ true) (count : ℕ) (c : count ≡ chunkCount (layoutFor density content s)) where
     pub answer-20 : (r : Written) → r ≡ refusal 20 → room < headLength count → Answers r out
     unfolding written
-    answer-20 r e short = rw e (rw (h, small, ← c, lt-leb (headLength count) room short), (refl, tt))
+    answer-20 r e short = rw e (rw (h, small, ← c, lt-leb (headLength count) room short), (refl, (tt, tt)))
 
     -- the head with content behind it, by the round trip
     worth : time < 2 ^ 32 → language < 2 ^ 32 → (o : List ℕ) → o ≡ head ++ drop (headLength count) out → length head ≡ headLength count
@@ -168,13 +172,13 @@ module _ (s : List ℕ) (density time language content : ℕ) (out : List ℕ) w
         let cut : Cut density (length rest) es gs = subst (λ (n : ℕ). Cut density n es gs) (sym e) (takes-told density content s h) in
         subst (RoundTrip density time language l es) file (round-trip density time language es gs rest t g cut small)
 
-    pub answer-head : time < 2 ^ 32 → language < 2 ^ 32 → (o : List ℕ) → headLength count ≤ room → length head ≡ headLength count → o ≡ sets out 0 head
+    pub answer-head : ((i : ℕ) → getD s i 0 < 256) → time < 2 ^ 32 → language < 2 ^ 32 → (o : List ℕ) → headLength count ≤ room → length head ≡ headLength count → o ≡ sets out 0 head
         → Answers (Length (headLength count)) o
     unfolding written
-    answer-head t g o enough lh w =
+    answer-head b t g o enough lh w =
         let z : 0 + length head ≡ headLength count = omega arith in
         let p = w ∙ sets-parts out 0 head (omega arith) ∙ ap (λ (i : ℕ). head ++ drop i out) z in
-        (rw (h, small, ← c, le-leb (headLength count) room enough), (p, worth t g o p lh))
+        (rw (h, small, ← c, le-leb (headLength count) room enough), (p, (worth t g o p lh, input-bytes s b content (takes-input density content s h))))
 
 pub made-small : (s starts : List ℕ) (l : Layout) (m depth count : ℕ) → Made s starts l m depth count → smallEnough l ≡ true
 made-small s starts l m depth count w = small-is l (omega (arith, w .counted, w .small)) (omega (arith, w .deep, w .flat))

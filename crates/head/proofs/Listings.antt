@@ -2,7 +2,7 @@
 -- name before it is the `len` bytes at `from`, and f has the chunks so far.
 -- Assumes nothing.
 use mathlib.Core.Path.{_≡_, refl, sym, ap, _∙_}
-use mathlib.Core.Bool.{Bool, true, false, cond}
+use mathlib.Core.Bool.{Bool, true, false, cond, _&&_}
 use mathlib.Core.List.{List, [], _∷_, map}
 use Prim.Native.Nat.{ℕ, _+_, _-_, _*_, _^_, _≤_, _<_}
 use native.Mathlib.Omega.{arith}
@@ -12,11 +12,13 @@ use lib.Seq.{sets}
 use lib.Dec.{eqb}
 use borrow.Author.Tests.{lt-leb, eq-eqb, ne-eqb}
 use Rattle.fields.specs.Part.{part}
+use Rattle.fields.proofs.Tests.{and-no}
 use Rattle.names.specs.Names.{below}
 use Rattle.entries.specs.Entry.{listingAt, nameOf}
 use Rattle.entries.specs.declared.Place.{Place}
 use Rattle.entries.specs.declared.Item.the-variants.{Good}
 use Rattle.chunk.specs.Chunk.{headOf, quickCount}
+use Rattle.source.specs.Stored.{storedOf, entryBytes, unpadded}
 use Rattle.source.specs.Source.{itemFrom, rowsFrom}
 use Rattle.source.specs.Input.{inputRight}
 use Rattle.source.proofs.Rows.{given-row, run-more}
@@ -25,7 +27,7 @@ use Rattle.pack.specs.Groups.{fits, taken}
 use Rattle.pack.specs.Fill.{rowSize}
 use Rattle.pack.specs.Starts.{chunksFrom, firstAt}
 use Rattle.pack.proofs.Groups.{later, later-none, later-first, later-fits, later-full}
-use Rattle.pack.proofs.Sizes.{row-short, row-long}
+use Rattle.pack.proofs.Sizes.{row-short, row-long, row-bytes}
 use Rattle.pack.proofs.Filling.{fits-small}
 use Rattle.head.specs.Plan.{Next, openWith, startsWith, Listed}
 use Rattle.head.specs.declared.Open.{Open}
@@ -95,13 +97,30 @@ module _ (content : ℕ) (s : List ℕ) (n : ℕ) (starts₀ : List ℕ) where
       reading-short h = right-here ∙ ne-eqb here (length s) h
 
     module _ (e : Place) (some : 0 < left) (q : listingAt content s here ≡ Good e) where
-      pub reading-falls : below (part s from len) (nameOf s e) ≡ false → inputRight content s ≡ false
-      reading-falls h = rw h at (sym (p .right) ∙ passes-more content s left here (part s from len) e some q)
+      right-entry : inputRight content s ≡ (unpadded s e && (below (part s from len) (nameOf s e) && passes s (e .next) (nameOf s e) (ahead content s (left - 1) (e .next))))
+      right-entry = sym (p .right) ∙ passes-more content s left here (part s from len) e some q
 
-      pub reading-next : length s < 2 ^ 64 → Next f e
-      reading-next l =
+      -- the size of what is written for it
+      written-size : length (entryBytes true (storedOf s e)) ≡ rowSize true e
+      written-size = row-bytes true s e (given-row content s here e q .row .inside)
+
+      pub reading-padded : (size : ℕ) → size ≡ rowSize true e → (e .next - e .at ≡ size → ⊥) → inputRight content s ≡ false
+      reading-padded size z h =
+          let n : ℕ = length (entryBytes true (storedOf s e)) in
+          let u : unpadded s e ≡ false = ne-eqb (e .next) (e .at + n) (λ (k : e .next ≡ e .at + n). h (omega (arith, written-size))) in
+          rw u at right-entry
+
+      short-entry : (size : ℕ) → size ≡ rowSize true e → e .next - e .at ≡ size → unpadded s e ≡ true
+      short-entry size z h = eq-eqb (e .next) (e .at + length (entryBytes true (storedOf s e))) (omega (arith, written-size, given-row content s here e q .moves))
+
+      pub reading-falls : below (part s from len) (nameOf s e) ≡ false → inputRight content s ≡ false
+      reading-falls h = rw (h, and-no) at right-entry
+
+      pub reading-next : length s < 2 ^ 64 → (size : ℕ) → size ≡ rowSize true e → Next f e size
+      reading-next l size z =
           let g = given-row content s here e q in
           record {
+            sized = z;
             short = g .row .short;
             small = p .small;
             counted = p .counted;
@@ -112,9 +131,9 @@ module _ (content : ℕ) (s : List ℕ) (n : ℕ) (starts₀ : List ℕ) where
       unfolding itemFrom
       row-coming = run-more (itemFrom content s [] true) left here e some q
 
-      module _ (h : below (part s from len) (nameOf s e) ≡ true) where
+      module _ (size : ℕ) (z₁ : size ≡ rowSize true e) (z₂ : e .next - e .at ≡ size) (h : below (part s from len) (nameOf s e) ≡ true) where
         right-on : passes s (e .next) (nameOf s e) (ahead content s (left - 1) (e .next)) ≡ inputRight content s
-        right-on = rw h at (sym (passes-more content s left here (part s from len) e some q) ∙ p .right)
+        right-on = sym (rw (short-entry size z₁ z₂, h) at right-entry)
 
         -- by whether it fits
         turn : (t : Bool) → fits true n (f .count + 1) (f .bytes + rowSize true e) ≡ t

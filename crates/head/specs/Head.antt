@@ -2,11 +2,12 @@
 -- Assumes nothing.
 use Prim.Native.Nat.{ℕ}
 use mathlib.Core.Path.{_≡_}
-use mathlib.Core.Bool.{cond}
-use mathlib.Core.List.{List, _++_}
+use mathlib.Core.Bool.{true, cond}
+use mathlib.Core.List.{List, _++_, flatMap}
 use lib.ListN.{length, take, drop}
 use lib.Dec.{leb}
 use Rattle.header.specs.Header.{none}
+use Rattle.source.specs.Stored.{entryBytes}
 use Rattle.source.specs.Input.{given}
 use Rattle.layout.specs.Headers.{headLength}
 use Rattle.layout.specs.Layout.{takes, layoutFor, chunkCount, smallEnough}
@@ -41,3 +42,9 @@ abbrev pub Worth : Written → (density time language content : ℕ) → List �
 Worth (Length n) density time language content s out =
     (rest : List ℕ) → length rest ≡ content → RoundTrip density time language (layoutFor density content s) (given content s) (take n out ++ rest)
 Worth (Refused r) density time language content s out = Unit {0}
+
+-- ---- what the input then was: what is written for its entries, each number in its short form (W2, N4)
+
+abbrev pub ShortInput : Written → ℕ → List ℕ → Type 0
+ShortInput (Length n) content s = s ≡ flatMap (entryBytes true) (given content s)
+ShortInput (Refused r) content s = Unit {0}

@@ -28,7 +28,8 @@ limits density content = leb density 7 && ltb content (2 ^ 62)
 -- ---- the listing chunks so far, as the input is read, and the entry that comes next
 
 -- what is known of them: no number grows past the bytes of a chunk, or past what can be taken
-pub record Next (f : Open) (e : Place) : Type 0 where
+pub record Next (f : Open) (e : Place) (size : ℕ) : Type 0 where
+  pub sized : size ≡ rowSize true e
   pub short : e .len ≤ 1024
   pub small : f .bytes ≤ 4096
   pub counted : f .count ≤ f .bytes

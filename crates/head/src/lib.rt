@@ -17,7 +17,7 @@ ghost use Rattle.compose.specs.NewChunk.{newChunk};
 ghost use Rattle.compose.specs.Steps.{groupFrom};
 ghost use Rattle.layout.specs.Headers.{fileHeader, sectionZero, directoryHeader};
 ghost use Rattle.layout.specs.Layout.{layoutOf, layoutFor, prevOf, nextOf, chunksOf, headBytes};
-ghost use Rattle.head.specs.Head.{written, outputFor, Worth};
+ghost use Rattle.head.specs.Head.{written, outputFor, Worth, ShortInput};
 ghost use Rattle.head.specs.Plan.{limits, Next, openWith, startsWith, ListingPlanned, LevelPlanned, Planned, LevelFits, IndexFits, indexOf, headersOf, Ready};
 use book::Refusal;
 use entries::Item;
@@ -82,12 +82,11 @@ fn rises(input: &[u8], from: usize, len: usize, start: usize, n: usize) -> bool
     names::is_below(&input[from..from + len], &input[start..start + n])
 }
 
-// One listing entry more: in the last chunk where it fits, else as the first of a new one. Then its place is stored, where `starts` has room.
-fn add(starts: &mut [usize], n: usize, f: Open, e: Place) -> Open
-    requires { ⌜ Next f e ⌝ }
+// One listing entry more, which is written in `size` bytes: in the last chunk where it fits, else as the first of a new one. Then its place is stored, where `starts` has room.
+fn add(starts: &mut [usize], n: usize, f: Open, e: Place, size: usize) -> Open
+    requires { ⌜ Next f e size ⌝ }
     ensures { λ r. ⌜ (r ≡ openWith n f e) × (now (starts .exit) ≡ startsWith n f e (now (starts .entry))) ⌝ }
 {
-    let size = pack::entry_size(true, e);
     let bytes = f.bytes + size;
     if pack::fits(true, n, f.count, bytes) {
         return Open {
@@ -120,8 +119,8 @@ fn given_at(input: &[u8], content: u64, at: usize, left: usize) -> Item
     entries::listing_at(input, at, content)
 }
 
-// Checks the input and plans the listing level, in one pass: the input is one good entry or more, one directly behind another to its end, with
-// names that rise. Too many chunks are counted on, since a fault of the input goes before them.
+// Checks the input and plans the listing level, in one pass: the input is one good entry or more, one directly behind another to its end, none padded,
+// with names that rise. Too many chunks are counted on, since a fault of the input goes before them.
 fn plan_listing(input: &[u8], content: u64, n: usize, starts: &mut [usize]) -> Leaves
     ensures { λ r. ⌜ ListingPlanned content (now (input .entry)) n (now (starts .entry)) (now (starts .exit)) r ⌝ }
 {
@@ -145,10 +144,14 @@ fn plan_listing(input: &[u8], content: u64, n: usize, starts: &mut [usize]) -> L
             }
             return Leaves::Bad;
         };
+        let size = pack::entry_size(true, e);
+        if e.next - e.at != size {
+            return Leaves::Bad;
+        }
         if !rises(input, from, len, e.start, e.len) {
             return Leaves::Bad;
         }
-        f = add(starts, n, f, e);
+        f = add(starts, n, f, e, size);
         from = e.start;
         len = e.len;
         at = e.next;
@@ -458,6 +461,7 @@ pub fn write_head(
     ensures answer { λ r. ⌜ r ≡ written (now (entries .entry)) density «content_length» (length (now (out .entry))) ⌝ }
     ensures output { λ r. ⌜ now (out .exit) ≡ outputFor r (headBytes density time language «content_length» (layoutFor density «content_length» (now (entries .entry)))) (now (out .entry)) ⌝ }
     ensures worth { λ r. ⌜ Worth r density time language «content_length» (now (entries .entry)) (now (out .exit)) ⌝ }
+    ensures input { λ r. ⌜ ShortInput r «content_length» (now (entries .entry)) ⌝ }
 {
     if !is_taken(density, content_length) {
         return refusal(18);

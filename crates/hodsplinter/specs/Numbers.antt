@@ -17,6 +17,8 @@ use Rattle.listing.specs.Listing.{fiveOf}
 use Rattle.listing.specs.declared.Cursor.{Cursor}
 use Rattle.listing.specs.declared.Step.{Step}
 use Rattle.listing.specs.declared.Step.the-variants.{End}
+use Rattle.listing.specs.declared.Owned.{Owned}
+use Rattle.listing.specs.declared.Owned.the-variants.{At, Nothing}
 use Rattle.listing.specs.declared.Page.{Page}
 use Rattle.listing.specs.declared.Page.the-variants.{Entries, Short}
 use Rattle.head.specs.declared.Written.{Written}
@@ -125,6 +127,16 @@ abbrev pub stepNumbers : Step → List ℕ → List ℕ
 stepNumbers (Step.Entry x at) was = fiveOf x
 stepNumbers (End at) was = was
 stepNumbers (Step.Refused x) was = was
+
+-- ---- own bytes: 0 with their place and how many they are, 255 where there is no entry, with nothing changed
+
+abbrev pub ownCode : Owned → ℕ
+ownCode (At x) = 0
+ownCode Nothing = 255
+
+abbrev pub ownNumbers : Owned → List ℕ → List ℕ
+ownNumbers (At x) was = x .place ∷ x .length ∷ []
+ownNumbers Nothing was = was
 
 -- ---- the length of a part of the file
 

@@ -1,16 +1,17 @@
 // The library for C: numbers and byte slices. A record is its numbers in the order of its fields; a refusal is its number plus 256 times its place.
 ghost use mathlib.Core.Path.{_≡_};
+ghost use mathlib.Core.Logic.{_↔_};
 ghost use Prim.Native.Nat.{ℕ, _≤_};
 ghost use lib.ListN.{length};
 ghost use Rattle.names.specs.Names.{compared, orderCode};
 ghost use Rattle.lookup.specs.Lookup.{lookedUp, trailAfter};
-ghost use Rattle.listing.specs.Listing.{startOf, stepped, pageOf, pageIn};
+ghost use Rattle.listing.specs.Listing.{startOf, stepped, ownedAt, pageOf, pageIn};
 ghost use Rattle.scan.specs.Scan.{scanned};
 ghost use Rattle.fetch.specs.Fetch.{fetched};
 ghost use Rattle.batch.specs.Batch.{batchOf, answersIn};
 ghost use Rattle.directory.specs.Opened.{opened};
 ghost use Rattle.directory.specs.declared.Opened.the-variants.{Book};
-ghost use Rattle.hodsplinter.specs.Numbers.{recordIn, numbersOf, refusalCode, openCode, openRecord, lookupCode, lookupNumbers, replyCode, replyNumbers, batchCode, cursorOf, cursorNumbers, stepCode, stepCursor, stepNumbers, pageCode, pageNumbers, partLength, writeCode, writeNumbers};
+ghost use Rattle.hodsplinter.specs.Numbers.{recordIn, numbersOf, refusalCode, openCode, openRecord, lookupCode, lookupNumbers, replyCode, replyNumbers, batchCode, cursorOf, cursorNumbers, stepCode, stepCursor, stepNumbers, ownCode, ownNumbers, pageCode, pageNumbers, partLength, writeCode, writeNumbers};
 ghost use Rattle.compare.specs.Compare.{compareStart};
 ghost use Rattle.hodsplinter.specs.Differences.{walksIn, totalNumbers, walksNumbers, nothing, fifteenOf, comparisonAt, compareCode, compareCursor, compareNumbers, compareTotals};
 ghost use Rattle.layout.specs.Layout.{layoutFor, headBytes};
@@ -25,6 +26,7 @@ use directory::Opened;
 use head::Written;
 use header::Record;
 use listing::Cursor;
+use listing::Owned;
 use listing::Page;
 use listing::Step;
 use lookup::Answer;
@@ -200,6 +202,16 @@ pub extern "C" fn hods_start(record: &Numbers, cursor: &mut [u64; 2]) -> u64
     0
 }
 
+// The cursor of two numbers.
+fn cursor_in(n: &[u64; 2]) -> Cursor
+    ensures { λ r. ⌜ r ≡ cursorOf (now (n .entry)) ⌝ }
+{
+    Cursor {
+        chunk: n[0],
+        entry: n[1],
+    }
+}
+
 // The entry at a cursor: 0 with its five numbers and the cursor moved on, 255 at the end with nothing changed, or the refusal with nothing changed.
 #[no_mangle]
 pub extern "C" fn hods_step(
@@ -212,10 +224,7 @@ pub extern "C" fn hods_step(
     ensures cursor { λ _. ⌜ now (cursor .exit) ≡ stepCursor (stepped (now (file .entry)) (recordIn (now («record» .entry))) (cursorOf (now (cursor .entry)))) (now (cursor .entry)) ⌝ }
     ensures numbers { λ _. ⌜ now (entry .exit) ≡ stepNumbers (stepped (now (file .entry)) (recordIn (now («record» .entry))) (cursorOf (now (cursor .entry)))) (now (entry .entry)) ⌝ }
 {
-    let at = Cursor {
-        chunk: cursor[0],
-        entry: cursor[1],
-    };
+    let at = cursor_in(cursor);
     match at.step(file, record_in(record)) {
         Step::Entry(x, next) => {
             *cursor = [next.chunk, next.entry];
@@ -224,6 +233,29 @@ pub extern "C" fn hods_step(
         }
         Step::End(_) => 255,
         Step::Refused(r) => code(r),
+    }
+}
+
+// The own bytes of the entry at a cursor, as stored: 0 with their place in the file and how many they are; 255, with nothing changed, where a step gives
+// no entry.
+#[no_mangle]
+pub extern "C" fn hods_own(
+    file: &[u8],
+    record: &Numbers,
+    cursor: &[u64; 2],
+    part: &mut [u64; 2],
+) -> u64
+    ensures answer { λ r. ⌜ r ≡ ownCode (ownedAt (now (file .entry)) (recordIn (now («record» .entry))) (cursorOf (now (cursor .entry)))) ⌝ }
+    ensures numbers { λ _. ⌜ now (part .exit) ≡ ownNumbers (ownedAt (now (file .entry)) (recordIn (now («record» .entry))) (cursorOf (now (cursor .entry)))) (now (part .entry)) ⌝ }
+    ensures step { λ r. ⌜ (r ≡ 0) ↔ (stepCode (stepped (now (file .entry)) (recordIn (now («record» .entry))) (cursorOf (now (cursor .entry)))) ≡ 0) ⌝ }
+{
+    let at = cursor_in(cursor);
+    match at.own(file, record_in(record)) {
+        Owned::At(x) => {
+            *part = [x.place, x.length];
+            0
+        }
+        Owned::Nothing => 255,
     }
 }
 

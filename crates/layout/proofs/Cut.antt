@@ -11,7 +11,7 @@ use lib.Dec.{ltb, leb, eqb}
 use borrow.Author.Tests.{leb-true, ltb-true}
 use Rattle.fields.proofs.Tests.{and-both}
 use Rattle.chunk.specs.Chunk.{spacingOf}
-use Rattle.source.specs.Stored.{Stored, storedOf, rises}
+use Rattle.source.specs.Stored.{Stored, storedOf, allUnpadded, rises}
 use Rattle.source.specs.Source.{endOf}
 use Rattle.source.specs.Input.{placesOf, given, inputRight}
 use Rattle.source.proofs.All.{All, all-weaken, all-parts}
@@ -40,13 +40,14 @@ takes-told density content s h =
     let es = given content s in
     let a = and-both (leb density 7) (ltb content (2 ^ 62) && inputRight content s) h in
     let b = and-both (ltb content (2 ^ 62)) (inputRight content s) (a .1) in
-    let c = and-both (ltb 0 (length (placesOf content s))) (eqb (endOf 0 (placesOf content s)) (length s) && rises [] es) (b .1) in
+    let c = and-both (ltb 0 (length (placesOf content s))) (eqb (endOf 0 (placesOf content s)) (length s) && (allUnpadded s (placesOf content s) && rises [] es)) (b .1) in
+    let d = and-both (eqb (endOf 0 (placesOf content s)) (length s)) (allUnpadded s (placesOf content s) && rises [] es) (c .1) in
     let k = given-kept content s in
     record {
       dense = leb-true density 7 (a .0);
       small = ltb-true content (2 ^ 62) (b .0);
       some = omega (arith, length-map (placesOf content s) (storedOf s), ltb-true 0 (length (placesOf content s)) (c .0));
-      order = and-both (eqb (endOf 0 (placesOf content s)) (length s)) (rises [] es) (c .1) .1;
+      order = and-both (allUnpadded s (placesOf content s)) (rises [] es) (d .1) .1;
       kept = k;
       whole = groups-flat (entrySize true) (fits true n) es;
       fit = level-fit n true es (all-weaken (λ (e : Stored) (k : Kept content e). k .short) k);

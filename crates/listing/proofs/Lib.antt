@@ -1,5 +1,6 @@
 pub mod Read
 pub mod Stepping
+pub mod Owning
 pub mod Writing
 pub mod Paging
 pub mod Run

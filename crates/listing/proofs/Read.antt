@@ -41,7 +41,7 @@ after-read limits k s (suc j) at e h =
     (λ g. absurd (let d : Nothing ≡ At e = rw g at h in let z : _≡_ {A = ℕ} 0 1 = cc in omega arith))
     (λ p g. after-read limits k s j (p .next) e (rw g at h))
 
-nth-read : (limits : Limits) (k : Bool) (s : List ℕ) (i : ℕ) (e : Place) → nthIn limits k s i ≡ At e
+pub nth-read : (limits : Limits) (k : Bool) (s : List ℕ) (i : ℕ) (e : Place) → nthIn limits k s i ≡ At e
     → (i < countOf s) × (p : ℕ) × (itemAt limits k s p ≡ Good e)
 unfolding nthIn
 nth-read limits k s i e h = go (ltb i (countOf s)) refl h

@@ -7,15 +7,10 @@ use Prim.Native.Nat.{ℕ, zero, suc, _+_, _-_, _<_}
 use native.Mathlib.Omega.{arith}
 use lib.ListN.{length, take, drop, length-drop}
 use lib.Seq.{drop-drop}
-use lib.Dec.{leb}
-use borrow.Author.Tests.{leb-true}
-use Rattle.fields.proofs.Tests.{and-both}
 use Rattle.chunk.specs.Chunk.{Entry, entriesIn}
 use Rattle.seek.specs.Seek.{found, nth}
-use Rattle.header.specs.Header.{within}
 use Rattle.header.specs.declared.Record.{Record}
-use Rattle.tree.specs.Shape.{noChunk, nextOf, listingChunk}
-use Rattle.tree.proofs.Chunks.{listing-chunk}
+use Rattle.tree.specs.Shape.{nextOf, listingChunk}
 use Rattle.book.specs.Book.{directoryOf, shapeOf, bookFits, reportOf}
 use Rattle.book.specs.declared.Report.{Report}
 use Rattle.listing.specs.Listing.{cursorAt, stepped, reportsIn}
@@ -23,7 +18,8 @@ use Rattle.listing.specs.Whole.{cursorIn, stepsFrom, cursorAfter}
 use Rattle.listing.specs.declared.Cursor.{Cursor}
 use Rattle.listing.specs.declared.Step.the-variants.{Entry as Reported, End}
 use Rattle.book.proofs.Read.{entries-some}
-use Rattle.listing.proofs.Stepping.{entry-inside, entry-last, step-entry}
+use Rattle.tree.proofs.Chunks.{listing-chunk}
+use Rattle.listing.proofs.Stepping.{entry-inside, entry-last, step-entry, some-chunk}
 
 -- ---- a run
 
@@ -79,26 +75,17 @@ module _ (s : List ℕ) (book : Record) (c : ℕ) (fits : bookFits s book ≡ tr
   abbrev next : Cursor
   next = cursorAt (nextOf (directoryOf s book c)) 0
 
-  -- its number is not that of none
-  some-chunk : c ≡ noChunk → ⊥
-  unfolding bookFits
-  some-chunk e =
-      let l = listing-chunk (directoryOf s book) (shapeOf book) c here .0 in
-      let b = and-both (within 1 4096 (book .count)) _ (and-both (within 1 5 (book .depth)) _ (and-both (leb (book .density) 7) _ fits .1) .1) .0 in
-      let m = leb-true (book .count) 4096 (and-both (leb 1 (book .count)) _ b .1) in
-      omega arith
-
   -- the step at an entry: the one behind it, or the next chunk
   step-inside : (i : ℕ) (x y : Entry) (ys : List Entry) → drop i es ≡ x ∷ y ∷ ys → stepped s book (cursorAt c i) ≡ Reported (reportOf book c x) (cursorAt c (i + 1))
   step-inside i x y ys e =
       let l : length es - i ≡ suc (suc (length ys)) = sym (length-drop i es) ∙ ap length e in
-      step-entry s book (cursorAt c i) fits some-chunk here
+      step-entry s book (cursorAt c i) fits (some-chunk s book c fits here) here
       ∙ entry-inside book (directoryOf s book c) (cursorAt c i) x (nth-first i es x (y ∷ ys) e) (omega arith)
 
   step-last : (i : ℕ) (x : Entry) → drop i es ≡ x ∷ [] → stepped s book (cursorAt c i) ≡ Reported (reportOf book c x) next
   step-last i x e =
       let l : length es - i ≡ 1 = sym (length-drop i es) ∙ ap length e in
-      step-entry s book (cursorAt c i) fits some-chunk here
+      step-entry s book (cursorAt c i) fits (some-chunk s book c fits here) here
       ∙ entry-last book (directoryOf s book c) (cursorAt c i) x (nth-first i es x [] e) (omega arith)
 
   -- the entries from entry i on

@@ -18,6 +18,8 @@ use Rattle.book.specs.Book.{limitsOf, chunkBytes, directoryOf, shapeOf, bookFit
 use Rattle.listing.specs.Listing.{refusal, cursorAt, movedOn, entryStep, stepped}
 use Rattle.listing.specs.declared.Cursor.{Cursor}
 use Rattle.listing.specs.declared.Step.the-variants.{Entry as Reported, End, Refused}
+use Rattle.tree.proofs.Chunks.{listing-chunk}
+use Rattle.book.proofs.Laws.{fits-told}
 use Rattle.book.proofs.Read.{entries-length}
 use Rattle.listing.proofs.Read.{nth-hit, nth-nothing}
 
@@ -85,3 +87,7 @@ module _ (s : List ℕ) (book : Record) (at : Cursor) where
       pub step-entry : listingChunk (directoryOf s book) (shapeOf book) (at .chunk) ≡ true → stepped s book at ≡ entryStep book (directoryOf s book (at .chunk)) at
       unfolding stepped
       step-entry h = rw (f, ne-eqb (at .chunk) noChunk n, h)
+
+-- the number of a listing chunk is not that of none
+pub some-chunk : (s : List ℕ) (book : Record) (c : ℕ) → bookFits s book ≡ true → listingChunk (directoryOf s book) (shapeOf book) c ≡ true → c ≡ noChunk → ⊥
+some-chunk s book c fits here e = omega (arith, listing-chunk (directoryOf s book) (shapeOf book) c here .0, fits-told s book fits .0)

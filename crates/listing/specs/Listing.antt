@@ -1,4 +1,4 @@
--- Listing: the cursor, the answer of a step, and a page, which is all entries of one chunk (FORMAT K7 to K13).
+-- Listing: the cursor, the answer of a step, an entry's own bytes, and a page, which is all entries of one chunk (FORMAT K7 to K13, K25).
 -- Assumes nothing.
 use Prim.Native.Nat.{ℕ, _+_, _*_}
 use mathlib.Core.Bool.{Bool, cond, _&&_}
@@ -10,18 +10,24 @@ use Rattle.chunk.specs.Chunk.{Parsed, entriesIn}
 use Rattle.seek.specs.Seek.{Sought, absent, found, nth}
 use Rattle.header.specs.declared.Record.{Record}
 use Rattle.tree.specs.Shape.{noChunk, nextOf, listingChunk}
-use Rattle.book.specs.Book.{directoryOf, shapeOf, bookFits, refusalOf, reportOf}
+use Rattle.book.specs.Book.{directoryOf, shapeOf, bookFits, refusalOf, reportOf, ownOf, OwnBytes}
 use Rattle.book.specs.declared.Refusal.{Refusal}
 use Rattle.book.specs.declared.Report.{Report}
 use Rattle.listing.specs.declared.Cursor.{Cursor}
 use Rattle.listing.specs.declared.Step.{Step}
 use Rattle.listing.specs.declared.Step.the-variants.{End}
+use Rattle.listing.specs.declared.Owned.{Owned}
+use Rattle.listing.specs.declared.Owned.the-variants.{At, Nothing}
 use Rattle.listing.specs.declared.Page.{Page}
 use Rattle.listing.specs.declared.Page.the-variants.{Entries, Short}
 
 -- the one refusal of listing; it belongs to no chunk (R17, RO7)
 abbrev pub refusal : Refusal
 refusal = refusalOf 17
+
+-- chunk c can be listed: the record can be asked, and c is a listing chunk below the count (K12, K13)
+unfoldable pub canList : List ℕ → Record → ℕ → Bool
+canList s book c = bookFits s book && listingChunk (directoryOf s book) (shapeOf book) c
 
 -- ---- the cursor
 
@@ -59,6 +65,27 @@ stepped s book at =
     (Step.Refused refusal)))
     (Step.Refused refusal)
 
+-- ---- own bytes
+
+-- those of the entry that is there
+abbrev pub ownedOf : Record → ℕ → Sought → Owned
+ownedOf book c absent = Nothing
+ownedOf book c (found e) = At (ownOf book c e)
+
+-- of the entry at a cursor; nothing where the record, the chunk or the entry number is refused, or at the end (K25)
+unfoldable pub ownedAt : List ℕ → Record → Cursor → Owned
+ownedAt s book at =
+    cond (canList s book (at .chunk)) (ownedOf book (at .chunk) (nth (at .entry) (entriesIn (directoryOf s book (at .chunk))))) Nothing
+
+-- beside a step at the same cursor: own bytes exactly where it reports an entry, and those of that entry
+abbrev pub OwnBeside : List ℕ → Step → Owned → Type 0
+OwnBeside s (Step.Entry r next) (At o) = OwnBytes s r o
+OwnBeside s (Step.Entry r next) Nothing = ⊥
+OwnBeside s (End at) (At o) = ⊥
+OwnBeside s (End at) Nothing = Unit {0}
+OwnBeside s (Step.Refused x) (At o) = ⊥
+OwnBeside s (Step.Refused x) Nothing = Unit {0}
+
 -- ---- a page
 
 -- the five numbers of a report in their order (K6, K7)
@@ -74,10 +101,6 @@ abbrev pub reportsIn : List ℕ → Record → ℕ → List Report
 reportsIn s book c = map (reportOf book c) (entriesIn (directoryOf s book c))
 
 module _ (s : List ℕ) (book : Record) (c : ℕ) where
-  -- chunk c can be listed: the record can be asked, and c is a listing chunk below the count (K12, K13)
-  unfoldable pub canList : Bool
-  canList = bookFits s book && listingChunk (directoryOf s book) (shapeOf book) c
-
   -- its entries have room in n places
   unfoldable pub hasRoom : ℕ → Bool
   hasRoom n = leb (5 * length (entriesIn (directoryOf s book c))) n
@@ -85,10 +108,10 @@ module _ (s : List ℕ) (book : Record) (c : ℕ) where
   -- the answer for a slice of n places: the count of the entries, and the chunk's next as stored
   unfoldable pub pageOf : ℕ → Page
   pageOf n =
-      cond canList
+      cond (canList s book c)
       (cond (hasRoom n) (Entries (length (entriesIn (directoryOf s book c))) (nextOf (directoryOf s book c))) Short)
       (Page.Refused refusal)
 
   -- the slice t with the entries' numbers from place 0 on; t itself where they are refused (RO8) or have no room
   unfoldable pub pageIn : List ℕ → List ℕ
-  pageIn t = cond (canList && hasRoom (length t)) (sets t 0 (numbersOf (reportsIn s book c))) t
+  pageIn t = cond (canList s book c && hasRoom (length t)) (sets t 0 (numbersOf (reportsIn s book c))) t

@@ -8,7 +8,8 @@ ghost use Rattle.fields.specs.Part.{partOf};
 ghost use Rattle.chunk.specs.Chunk.{countOf};
 ghost use Rattle.tree.specs.Shape.{isListing, nextOf};
 ghost use Rattle.book.specs.Book.{chunkBytes, directoryOf};
-ghost use Rattle.listing.specs.Listing.{startOf, entryStep, stepped, fiveOf, numbersOf, reportsIn, pageOf, pageIn};
+ghost use Rattle.listing.specs.Listing.{startOf, entryStep, stepped, ownedAt, OwnBeside, fiveOf, numbersOf, reportsIn, pageOf, pageIn};
+use book::Own;
 use book::Refusal;
 use book::Report;
 use chunk::Chunk;
@@ -27,6 +28,12 @@ pub enum Step {
     Entry(Report, Cursor),
     End(Cursor),
     Refused(Refusal),
+}
+
+// The own bytes of an entry; or there is no entry.
+pub enum Owned {
+    At(Own),
+    Nothing,
 }
 
 // What a page gives: how many entries it has and the chunk that follows; or that the lent slice is too short; or a refusal.
@@ -87,6 +94,24 @@ impl Cursor {
             Chunk::Listing(_, next) => step_in(file, book, self, next),
             Chunk::Index => Step::Refused(book::refuse(17)),
             Chunk::Refused(_) => Step::Refused(book::refuse(17)),
+        }
+    }
+
+    // The own bytes of the entry at the cursor, as stored. The cursor stays.
+    pub fn own(self, file: &[u8], book: Record) -> Owned
+        ensures bytes { λ r. ⌜ r ≡ ownedAt (now (file .entry)) book self ⌝ }
+        ensures beside { λ r. ⌜ OwnBeside (now (file .entry)) (stepped (now (file .entry)) book self) r ⌝ }
+    {
+        if !book::fits(file, book) {
+            return Owned::Nothing;
+        }
+        let Chunk::Listing(_, _) = book::met(file, book, self.chunk) else {
+            return Owned::Nothing;
+        };
+        let c = book::chunk_bytes(file, book, self.chunk);
+        match seek::nth_entry(c, book::limits(file, book), true, self.entry as usize) {
+            Hit::At(e) => Owned::At(book::own_of(file, book, self.chunk, e)),
+            Hit::Nothing => Owned::Nothing,
         }
     }
 }

@@ -14,19 +14,25 @@ use Rattle.names.specs.Names.{below}
 use Rattle.entries.specs.Entry.{listingAt, nameOf}
 use Rattle.entries.specs.declared.Place.{Place}
 use Rattle.entries.specs.declared.Item.the-variants.{Good}
-use Rattle.source.specs.Stored.{storedOf, rises}
+use Rattle.source.specs.Stored.{storedOf, unpadded, allUnpadded, rises}
 use Rattle.source.specs.Source.{run, endOf}
 use Rattle.source.specs.Input.{given, inputRight}
 use Rattle.source.proofs.Rows.{run-more}
 
--- the entries that are left end where the input does, and their names rise
+-- the entries that are left end where the input does, none is padded, and their names rise
 abbrev pub passes : List ℕ → ℕ → List ℕ → List Place → Bool
-passes s at last es = eqb (endOf at es) (length s) && rises last (map (storedOf s) es)
+passes s at last es = eqb (endOf at es) (length s) && (allUnpadded s es && rises last (map (storedOf s) es))
 
-and-swap : (a b c : Bool) → (a && (b && c)) ≡ (b && (a && c))
-and-swap true b c = refl
-and-swap false true c = refl
-and-swap false false c = refl
+-- the tests of an entry in front of those of the entries behind it
+entry-first : (end u us r rs : Bool) → (end && ((u && us) && (r && rs))) ≡ (u && (r && (end && (us && rs))))
+entry-first true true true true rs = refl
+entry-first true true true false rs = refl
+entry-first true true false true rs = refl
+entry-first true true false false rs = refl
+entry-first true false us r rs = refl
+entry-first false true us true rs = refl
+entry-first false true us false rs = refl
+entry-first false false us r rs = refl
 
 module _ (content : ℕ) (s : List ℕ) where
   -- the entries from a place on, where so many may be taken
@@ -48,12 +54,13 @@ module _ (content : ℕ) (s : List ℕ) where
 
   -- no entry is left
   pub passes-end : (left at : ℕ) (last : List ℕ) → ahead left at ≡ [] → passes s at last (ahead left at) ≡ eqb at (length s)
-  unfolding endOf rises
+  unfolding endOf allUnpadded rises
   passes-end left at last q = rw q (and-yes (eqb at (length s)))
 
   pub passes-more : (left at : ℕ) (last : List ℕ) (e : Place) → 0 < left → listingAt content s at ≡ Good e
-      → passes s at last (ahead left at) ≡ (below last (nameOf s e) && passes s (e .next) (nameOf s e) (ahead (left - 1) (e .next)))
-  unfolding endOf rises
+      → passes s at last (ahead left at) ≡ (unpadded s e && (below last (nameOf s e) && passes s (e .next) (nameOf s e) (ahead (left - 1) (e .next))))
+  unfolding endOf allUnpadded rises
   passes-more left at last e h q =
       rw (run-more (listingAt content s) left at e h q)
-      (and-swap (eqb (endOf (e .next) (ahead (left - 1) (e .next))) (length s)) (below last (nameOf s e)) (rises (nameOf s e) (map (storedOf s) (ahead (left - 1) (e .next)))))
+      (entry-first (eqb (endOf (e .next) (ahead (left - 1) (e .next))) (length s)) (unpadded s e) (allUnpadded s (ahead (left - 1) (e .next))) (below last (nameOf s e))
+      (rises (nameOf s e) (map (storedOf s) (ahead (left - 1) (e .next)))))

@@ -2,14 +2,12 @@
 -- Assumes nothing.
 use mathlib.Core.Path.{_≡_, refl, sym, subst}
 use mathlib.Core.List.{List, [], _∷_}
-use mathlib.Core.Bool.{Bool, true, false, cond, _&&_, _||_}
+use mathlib.Core.Bool.{Bool, true, false, cond, _||_}
 use Prim.Native.Nat.{ℕ, zero, suc, _+_, _-_, _^_, _≤_, _<_}
 use native.Mathlib.Omega.{arith}
 use borrow.Author.Tests.{ltb-true, leb-true}
 use lib.ListN.{length, getD, take, drop}
 use lib.Dec.{ltb, leb}
-use Rattle.fields.proofs.Tests.{and-both}
-use Rattle.encint.specs.Encint.{encintAt}
 use Rattle.encint.specs.declared.Number.{Number}
 use Rattle.encint.specs.declared.Number.the-variants.{Value}
 use Rattle.encint.proofs.Reading.{encint-small}
@@ -17,7 +15,7 @@ use Rattle.entries.specs.Entry.{nameAt, withNumber, listingAt}
 use Rattle.entries.specs.declared.Place.{Place}
 use Rattle.entries.specs.declared.Item.{Item}
 use Rattle.entries.specs.declared.Item.the-variants.{Good, Bad}
-use Rattle.entries.proofs.Laws.{name-next}
+use Rattle.entries.proofs.Laws.{name-next, listing-apart, listing-inside}
 use Rattle.source.specs.Source.{childAt, itemFrom, takenOf, run, endOf, rowsFrom}
 use Rattle.source.proofs.All.{All, none, more}
 
@@ -52,6 +50,7 @@ named-row s e h =
 pub record Given (content : ℕ) (s : List ℕ) (at : ℕ) (e : Place) : Type 0 where
   pub row : Row s e
   pub here : e .at ≡ at
+  pub moves : e .at < e .next
   pub section : e .section ≤ 65535
   pub offset : e .offset < 2 ^ 63
   pub size : e .size < 2 ^ 63
@@ -59,25 +58,18 @@ pub record Given (content : ℕ) (s : List ℕ) (at : ℕ) (e : Place) : Type 0 
   pub childless : e .child ≡ 0
 
 pub given-row : (content : ℕ) (s : List ℕ) (at : ℕ) (e : Place) → listingAt content s at ≡ Good e → Given content s at e
-unfolding listingAt
 given-row content s at e q =
-    let n = number-there _ _ q in
-    let a = number-there (encintAt s (n .1 + n .0)) _ (n .3) in
-    let b = number-there _ _ (a .3) in
-    let d = number-there _ _ (b .3) in
-    let x : Place = record { at = at; start = n .1; len = n .0; section = a .0; offset = b .0; size = d .0; child = 0; next = d .1 } in
-    let p = test-passed (leb (a .0) 65535 && (ltb 0 (a .0) || leb (b .0 + d .0) content)) x (d .3) in
-    let t = and-both (leb (a .0) 65535) (ltb 0 (a .0) || leb (b .0 + d .0) content) (p .0) in
-    subst (Given content s at) (p .1)
-    (record {
-      row = named-row s x (n .2);
-      here = refl;
-      section = leb-true (a .0) 65535 (t .0);
-      offset = encint-small s (a .1) (b .2);
-      size = encint-small s (b .1) (d .2);
-      within = t .1;
-      childless = refl;
-    })
+    let a = listing-apart content s at e q in
+    record {
+      row = named-row s e (rw (← a .same) at (a .name));
+      here = a .same;
+      moves = omega (arith, a .same, listing-inside content s at e q .moves);
+      section = leb-true (e .section) 65535 (a .numbered);
+      offset = encint-small s (a .p₁) (a .offset);
+      size = encint-small s (a .p₂) (a .size);
+      within = a .within;
+      childless = a .childless;
+    }
 
 -- of a chunk
 pub record Child (s starts : List ℕ) (c : ℕ) (e : Place) : Type 0 where

@@ -7,7 +7,7 @@ use lib.ListN.{length}
 use lib.Dec.{ltb, eqb}
 use Rattle.entries.specs.Entry.{listingAt}
 use Rattle.entries.specs.declared.Place.{Place}
-use Rattle.source.specs.Stored.{Stored, storedOf, rises}
+use Rattle.source.specs.Stored.{Stored, storedOf, allUnpadded, rises}
 use Rattle.source.specs.Source.{run, endOf}
 
 -- where they stand: one directly behind another, as far as they are whole and good by E3 to E6
@@ -18,7 +18,7 @@ placesOf content s = run (listingAt content s) (length s) 0
 unfoldable pub given : ℕ → List ℕ → List Stored
 given content s = map (storedOf s) (placesOf content s)
 
--- one or more; the last ends where the input does; their names rise strictly
+-- one or more; the last ends where the input does; every number is in its short form; their names rise strictly
 unfoldable pub inputRight : ℕ → List ℕ → Bool
 inputRight content s =
-    ltb 0 (length (placesOf content s)) && (eqb (endOf 0 (placesOf content s)) (length s) && rises [] (given content s))
+    ltb 0 (length (placesOf content s)) && (eqb (endOf 0 (placesOf content s)) (length s) && (allUnpadded s (placesOf content s) && rises [] (given content s)))

@@ -2,6 +2,7 @@
 
 use crate::compare::Asked;
 use crate::coverage::Coverage;
+use crate::padding::Number;
 use second::{batch_names, read_encint, ANSWER};
 
 const BOOK: &str = "book of a batch";
@@ -9,6 +10,7 @@ const NAMES: &str = "names of a batch";
 const BROKEN: &str = "broken name of a batch";
 const ROOM: &str = "room of a batch";
 const STATUS: &str = "answer of a batch";
+pub const PADDED: &str = "padded length of a name in a batch";
 
 /// Counts the book, the names and the room of a batch.
 pub fn count(coverage: &mut Coverage, asked: &Asked, names: &[u8], room: usize) {
@@ -31,9 +33,10 @@ pub fn count(coverage: &mut Coverage, asked: &Asked, names: &[u8], room: usize) 
         coverage.count(BOOK, "4,096 chunks");
     }
     match whole {
-        Some(names) => {
-            count_names(coverage, &names);
-            count_room(coverage, ANSWER * names.len(), room);
+        Some(whole) => {
+            count_names(coverage, &whole);
+            count_lengths(coverage, names);
+            count_room(coverage, ANSWER * whole.len(), room);
         }
         None => count_broken(coverage, &broken(names), too_little),
     }
@@ -69,6 +72,15 @@ fn count_names(coverage: &mut Coverage, names: &[&[u8]]) {
         if at > 0 && names[..at].contains(name) {
             coverage.count(NAMES, "one that stands there before");
         }
+    }
+}
+
+/// Counts the padded lengths of whole names.
+fn count_lengths(coverage: &mut Coverage, names: &[u8]) {
+    let mut rest = names;
+    while let Some(length) = Number::read(rest) {
+        length.count(coverage, PADDED);
+        rest = &rest[length.bytes + length.value as usize..];
     }
 }
 
@@ -119,11 +131,11 @@ fn broken(names: &[u8]) -> Broken {
 
 /// Why no ENCINT stands at the front of these bytes.
 fn no_length(bytes: &[u8]) -> &'static str {
-    match bytes {
-        [0x80, 0x80, ..] => "length with two zeros or more in front",
-        [0x80, ..] => "length with a zero in front",
-        _ if bytes.len() > 9 => "length of more than nine bytes",
-        _ if bytes.len() == 9 => "end behind nine bytes of the length",
+    match bytes.len() {
+        10.. if bytes[0] == 0x80 => "length padded to more than nine bytes",
+        10.. => "length of more than nine bytes",
+        9 => "end behind nine bytes of the length",
+        _ if bytes.iter().all(|&byte| byte == 0x80) => "end inside the leading bytes of the length",
         _ => "end inside the length",
     }
 }

@@ -4,11 +4,12 @@
 mod batch;
 mod opened;
 mod order;
+mod own;
 mod sides;
 
 use crate::coverage::{self, Coverage};
 use crate::lent::Lent;
-use crate::library;
+use crate::{inputs, library, padding};
 use second::generate::{Call, Input};
 use second::{
     chunk_entries, diff_frames, frames, lookup, open, part, scan, start, step, Answer, Cursor,
@@ -203,7 +204,11 @@ impl Differ {
             Call::Opened { record, name } => self.opened(asked, record, name),
             Call::Batch { names, room } => self.batch(asked, names, *room),
             Call::Start { record } => self.start(record),
-            Call::Step { record, cursor } => self.step(asked, record, *cursor),
+            Call::Step { record, cursor } => {
+                self.step(asked, record, *cursor).told()?;
+                let own = self.own(asked, record, *cursor).told();
+                return own.map_err(|answers| format!("own bytes there\n{answers}"));
+            }
             Call::Page {
                 record,
                 chunk,
@@ -307,6 +312,9 @@ impl Differ {
         if let Reply::Found(report) = told {
             if part(asked.file, report.place, report.length) != name {
                 self.coverage.count(group, "found in another case");
+            }
+            if asked.opening.is_ok() && padding::found_padded(asked.file, &report) {
+                self.coverage.count(group, "found in a padded entry");
             }
         }
     }
@@ -522,9 +530,13 @@ impl Differ {
             Err(refusal) => (code(refusal), refusal.number),
         };
         self.coverage.count("write_head", coverage::number(number));
-        if number == 20 {
-            let head = input.head_within(usize::MAX);
-            self.count_output(head.map_or(0, |head| head.len()), input.out_len);
+        match number {
+            18 => inputs::count_padded(&mut self.coverage, input),
+            20 => {
+                let head = input.head_within(usize::MAX);
+                self.count_output(head.map_or(0, |head| head.len()), input.out_len);
+            }
+            _ => {}
         }
 
         let mut lent_entries = Lent::with("entries", &input.entries);
@@ -559,9 +571,13 @@ impl Differ {
     /// Compares what `list` wrote for these bytes.
     pub fn program(&mut self, file: &[u8], written: &str) -> Result<(), String> {
         self.comparisons += 1;
+        let expected = frames(file);
         let number = refused_within(file, 60_000);
         self.coverage.count("list", coverage::number(number));
-        told_lines("list", &frames(file), written)
+        if number == 0 {
+            self.count_frames("frame of list", &expected, 0);
+        }
+        told_lines("list", &expected, written)
     }
 
     /// Compares what `diff` wrote for these two files.
@@ -580,12 +596,26 @@ impl Differ {
         self.coverage.count(group, name);
         self.count_file(one);
         self.count_file(two);
+        if numbers == (0, 0) {
+            self.count_frames("frame of diff", &expected, 1);
+        }
         for kind in ["01", "02", "03"] {
             if expected.lines().any(|line| line.starts_with(kind)) {
                 self.coverage.count("frame of diff", kind);
             }
         }
         told_lines("diff", &expected, written)
+    }
+
+    /// Counts frames by their numbers; the entries stand behind so many bytes.
+    fn count_frames(&mut self, group: &'static str, lines: &str, behind: usize) {
+        for line in lines.lines() {
+            let name = match padding::is_padded_frame(line, behind) {
+                true => "with a padded number",
+                false => "all numbers in their short form",
+            };
+            self.coverage.count(group, name);
+        }
     }
 
     fn count_file(&mut self, file: &[u8]) {

@@ -1,6 +1,6 @@
 //! What came up in a run, counted, and what has to come up in a complete one.
 
-use crate::library;
+use crate::{batches, inputs, library, padding};
 use second::generate::{self, comparison, pairs};
 use std::cmp::Ordering;
 use std::collections::BTreeMap;
@@ -57,6 +57,7 @@ const NAME: &[&str] = &[
     "1,025 bytes",
     "longer",
     "found in another case",
+    "found in a padded entry",
 ];
 
 /// The numbers of a record that no book gave, as they are lent.
@@ -128,11 +129,35 @@ const GROUPS: &[(&str, &[&str])] = &[
     ("lookup in an opened book", &["found", "absent", "15", "17"]),
     ("batch", BATCH),
     ("start", &["0"]),
+    (
+        "own bytes",
+        &[
+            "0, all numbers in their short form",
+            "0, with a padded number",
+            "255, the end",
+            "255, a bad record",
+            "255, a chunk that is refused",
+            "255, an entry not below the count",
+        ],
+    ),
     ("step", &["entry", "end", "17"]),
     ("page", &["entries", "too few places", "17"]),
     ("part", &["inside", "of no bytes", "outside"]),
     ("write_head", &["0", "18", "19", "20"]),
+    (
+        "padded entry for the writer",
+        &[
+            "the only one",
+            "the first of several",
+            "between others",
+            "the last of several",
+        ],
+    ),
     ("list", PROGRAM),
+    (
+        "frame of list",
+        &["all numbers in their short form", "with a padded number"],
+    ),
     ("start of a comparison", &["0"]),
     (
         "step of a comparison",
@@ -171,7 +196,16 @@ const GROUPS: &[(&str, &[&str])] = &[
             "none",
         ],
     ),
-    ("frame of diff", &["01", "02", "03"]),
+    (
+        "frame of diff",
+        &[
+            "01",
+            "02",
+            "03",
+            "all numbers in their short form",
+            "with a padded number",
+        ],
+    ),
     (
         "file of diff",
         &[
@@ -212,6 +246,7 @@ const GROUPS: &[(&str, &[&str])] = &[
             "one entry in the first",
             "one entry in the second",
             "a name in another case, the same",
+            "a name padded in another way, the same",
             "no difference",
             "no common name",
             "all names changed",
@@ -229,6 +264,15 @@ const GROUPS: &[(&str, &[&str])] = &[
             "another length alone",
             "several numbers",
             "in another case",
+        ],
+    ),
+    (
+        "entry of a difference",
+        &[
+            "of the first book, in its short form",
+            "of the first book, with a padded number",
+            "of the second book, in its short form",
+            "of the second book, with a padded number",
         ],
     ),
     ("the earlier of two damages", DAMAGE),
@@ -292,11 +336,11 @@ const GROUPS: &[(&str, &[&str])] = &[
     (
         "broken name of a batch",
         &[
-            "length with a zero in front",
-            "length with two zeros or more in front",
+            "length padded to more than nine bytes",
             "length of more than nine bytes",
             "end behind nine bytes of the length",
             "end inside the length",
+            "end inside the leading bytes of the length",
             "length 1 too high",
             "length too high by more",
             "length of 2^32 or more",
@@ -448,6 +492,7 @@ const GROUPS: &[(&str, &[&str])] = &[
             "2 quick words or more",
             "as many entries as the quick words' step",
             "one entry more than the quick words' step",
+            "quick word moved by padding",
             "300 entries or more",
         ],
     ),
@@ -466,6 +511,13 @@ const GROUPS: &[(&str, &[&str])] = &[
     ),
 ];
 
+/// The groups of numbers that are padded, each in all ways.
+fn padded_groups() -> impl Iterator<Item = &'static str> {
+    let entries = padding::LISTING.iter().chain(&padding::INDEX);
+    let groups = entries.chain(&inputs::WRITER).chain(&[batches::PADDED]);
+    groups.copied()
+}
+
 pub struct Coverage {
     /// All groups and names, in the order of printing.
     order: Vec<(&'static str, &'static str)>,
@@ -477,6 +529,8 @@ impl Coverage {
         let answers = GROUPS
             .iter()
             .flat_map(|(group, names)| names.iter().map(move |name| (*group, *name)));
+        let padded = padded_groups()
+            .flat_map(|group| padding::PADDED.iter().map(move |name| (group, *name)));
         let numbers = RECORD.iter().chain(&CURSOR).chain(&SIDES_CURSOR);
         let extremes = numbers.flat_map(|group| EXTREMES.map(|(_, name)| (*group, name)));
         let ways = pairs::WAYS.iter().flat_map(|way| {
@@ -492,7 +546,8 @@ impl Coverage {
         let sides = groups
             .into_iter()
             .flat_map(|(group, labels)| labels.into_iter().map(move |label| (group, label)));
-        let order = answers.chain(extremes).chain(ways).chain(cases);
+        let order = answers.chain(padded).chain(extremes);
+        let order = order.chain(ways).chain(cases);
         let order: Vec<_> = order.chain(sides).collect();
         Coverage {
             counts: order.iter().map(|&key| (key, 0)).collect(),

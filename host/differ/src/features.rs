@@ -1,6 +1,7 @@
 //! What a book that opens is like, read from its bytes: the generators are not asked.
 
 use crate::coverage::Coverage;
+use crate::padding::{self, Entries, Entry};
 use second::{chunk_entries, encint, part, quick_words, Record, Report, NONE};
 
 const BOOK: &str = "book that opens";
@@ -128,6 +129,11 @@ fn chunk(coverage: &mut Coverage, bytes: &[u8], density: u64) {
         ],
     };
     coverage.count(CHUNK, names[state]);
+    quick(coverage, entries, words, density);
+    padded(coverage, bytes, density);
+}
+
+fn quick(coverage: &mut Coverage, entries: u64, words: u64, density: u64) {
     let words = match words {
         0 => "no quick word",
         1 => "1 quick word",
@@ -143,6 +149,23 @@ fn chunk(coverage: &mut Coverage, bytes: &[u8], density: u64) {
     }
     if entries >= 300 {
         coverage.count(CHUNK, "300 entries or more");
+    }
+}
+
+/// Counts the padded numbers of a chunk; each in front of a quick word's entry moves that word.
+fn padded(coverage: &mut Coverage, bytes: &[u8], density: u64) {
+    let end = 4096 - little(bytes, 4, 4) as usize;
+    let (entries, groups): (Entries, &[&str]) = match bytes[3] {
+        b'L' => (Entries::listing(&bytes[20..end]), &padding::LISTING),
+        _ => (Entries::index(&bytes[8..end]), &padding::INDEX),
+    };
+    let entries: Vec<Entry> = entries.collect();
+    for entry in &entries {
+        entry.count(coverage, groups);
+    }
+    let step = 1 + (1 << density);
+    if entries.len() > step && entries[..step].iter().any(Entry::is_padded) {
+        coverage.count(CHUNK, "quick word moved by padding");
     }
 }
 

@@ -9,10 +9,12 @@ mod course;
 mod coverage;
 mod diff;
 mod features;
+mod inputs;
 mod lent;
 #[allow(unsafe_code)]
 #[path = "../../hodsplinter/src/raw.rs"]
 mod library;
+mod padding;
 mod pairs;
 mod program;
 mod run;

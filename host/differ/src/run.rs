@@ -6,7 +6,7 @@ use crate::{course, coverage, diff, features};
 use second::generate::pairs::{pairs, Pair};
 use second::generate::questions::{about, names_in, questions};
 use second::generate::{self, Aim, Call, Case, Input, Random};
-use second::{chunk_entries, entry_bytes, Record, NONE};
+use second::{chunk_listed, own_bytes, Record, NONE};
 
 /// The program `list` is run on the file of every so many cases.
 const PROGRAM_RUNS: u64 = 32;
@@ -165,9 +165,9 @@ fn listed(
             chunk,
             numbers: 4070,
         })?;
-        let (reports, next) = chunk_entries(file, &record, chunk)
+        let (listed, next) = chunk_listed(file, &record, chunk)
             .map_err(|refusal| format!("read back: both refuse chunk {chunk}, {refusal:?}"))?;
-        entries.extend(reports.iter().flat_map(|report| entry_bytes(file, report)));
+        entries.extend(listed.iter().flat_map(|listed| own_bytes(file, listed)));
         chunk = next.into();
     }
     Ok(entries)

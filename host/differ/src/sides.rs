@@ -3,7 +3,9 @@
 
 use crate::compare::Asked;
 use crate::coverage::Coverage;
-use second::{chunk_entries, part, Compared, Difference, Progress, Record, Totals, Walk, NONE};
+use crate::padding;
+use second::{chunk_listed, own_bytes, part};
+use second::{Compared, Difference, Listed, Progress, Record, Totals, Walk, NONE};
 use std::collections::BTreeMap;
 
 const STEP: &str = "step of a comparison";
@@ -22,6 +24,7 @@ pub fn count_step(coverage: &mut Coverage, from: &Progress, told: &Compared) {
     let (name, totals) = match told {
         Compared::Difference(difference, behind) => {
             count_walks(coverage, from, difference, behind);
+            count_entries(coverage, difference);
             (kind(difference), behind.totals)
         }
         Compared::End(totals) => ("end", *totals),
@@ -44,6 +47,29 @@ fn kind(difference: &Difference) -> &'static str {
         Difference::OnlyFirst(_) => "only first",
         Difference::OnlySecond(_) => "only second",
         Difference::Changed(..) => "changed",
+    }
+}
+
+fn count_entries(coverage: &mut Coverage, difference: &Difference) {
+    const FIRST: [&str; 2] = [
+        "of the first book, in its short form",
+        "of the first book, with a padded number",
+    ];
+    const SECOND: [&str; 2] = [
+        "of the second book, in its short form",
+        "of the second book, with a padded number",
+    ];
+    let mut count = |listed: &Listed, names: [&'static str; 2]| {
+        let padded = padding::is_padded(listed);
+        coverage.count("entry of a difference", names[usize::from(padded)]);
+    };
+    match difference {
+        Difference::OnlyFirst(one) => count(one, FIRST),
+        Difference::OnlySecond(two) => count(two, SECOND),
+        Difference::Changed(one, two) => {
+            count(one, FIRST);
+            count(two, SECOND);
+        }
     }
 }
 
@@ -122,8 +148,16 @@ fn standing(walk: &Walk, file: &[u8], record: &Record) -> &'static str {
     }
 }
 
-/// The entries of a book that opens, by their names in lower case.
-type Names<'a> = BTreeMap<Vec<u8>, (&'a [u8], [u64; 3])>;
+/// An entry of a book that opens.
+struct Held<'a> {
+    name: &'a [u8],
+    /// Section, offset and length.
+    numbers: [u64; 3],
+    own: &'a [u8],
+}
+
+/// The entries by their names in lower case.
+type Names<'a> = BTreeMap<Vec<u8>, Held<'a>>;
 
 /// The names, and the numbers of the chunks along the chain.
 fn names<'a>(file: &'a [u8], record: &Record) -> (Names<'a>, Vec<u64>) {
@@ -131,11 +165,15 @@ fn names<'a>(file: &'a [u8], record: &Record) -> (Names<'a>, Vec<u64>) {
     let mut chain = Vec::new();
     let mut at = record.first;
     while at != u64::from(NONE) {
-        let (reports, next) = chunk_entries(file, record, at).expect("the book opened");
-        names.extend(reports.iter().map(|report| {
-            let name = part(file, report.place, report.length);
-            let numbers = [report.section, report.offset, report.size];
-            (name.to_ascii_lowercase(), (name, numbers))
+        let (entries, next) = chunk_listed(file, record, at).expect("the book opened");
+        names.extend(entries.iter().map(|listed| {
+            let report = &listed.report;
+            let held = Held {
+                name: part(file, report.place, report.length),
+                numbers: [report.section, report.offset, report.size],
+                own: own_bytes(file, listed),
+            };
+            (held.name.to_ascii_lowercase(), held)
         }));
         chain.push(at);
         at = next.into();
@@ -169,19 +207,21 @@ pub fn count_books(coverage: &mut Coverage, asked: [(&Asked, &Record); 2]) -> To
 /// The totals of these names; those that are in both books are counted by what differs.
 fn count_names(coverage: &mut Coverage, first: &Names, second: &Names) -> Totals {
     let mut totals = Totals::default();
-    for (folded, (name, numbers)) in first {
+    for (folded, one) in first {
         match second.get(folded) {
             None => totals.only_first += 1,
-            Some((other, same)) if same == numbers => {
+            Some(two) if one.numbers == two.numbers => {
                 totals.same += 1;
-                if name != other {
+                if one.name != two.name {
                     coverage.count(BOOKS, "a name in another case, the same");
+                } else if one.own != two.own {
+                    coverage.count(BOOKS, "a name padded in another way, the same");
                 }
             }
-            Some((other, others)) => {
+            Some(two) => {
                 totals.changed += 1;
-                coverage.count(CHANGED, changed(numbers, others));
-                if name != other {
+                coverage.count(CHANGED, changed(&one.numbers, &two.numbers));
+                if one.name != two.name {
                     coverage.count(CHANGED, "in another case");
                 }
             }

@@ -42,8 +42,8 @@ that do not print are written as \\xNN, a backslash as \\\\.
 
       --json             an array of objects with name, section, offset, length;
                          a name that is not UTF-8 is null, with its name_hex
-      --frames           the bytes of each entry in hexadecimal; a refusal is
-                         ee, its number, its chunk
+      --frames           the bytes of each entry in hexadecimal, as they stand,
+                         padding too; a refusal is ee, its number, its chunk
 ";
 
 pub const FIND: &str = "\

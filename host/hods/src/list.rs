@@ -56,7 +56,7 @@ fn refusal_frame(refusal: Refusal) -> String {
 
 /// FORMAT P2, P3.
 fn frames(book: &Book, out: &mut Output) -> Result<(), Trouble> {
-    each(book, out, |entry| hex(book.entry_bytes(entry)))
+    each(book, out, |entry| hex(entry.stored_bytes()))
 }
 
 /// Section, offset, length, name: what `hods write --list` reads.

@@ -70,7 +70,7 @@ where
     Ok(read_answers(&room).collect())
 }
 
-/// The same on bytes, for names that are kept as docs/FORMAT.md, B2, asks for them, and with no memory taken. The answers stand at the front of the room, [`ANSWER`]
+/// The same on bytes, for names that are kept as docs/FORMAT.md, B2, asks for them, their lengths padded or not, and with no memory taken. The answers stand at the front of the room, [`ANSWER`]
 /// bytes for each name; bytes behind them stay as they were. Refused with the book's refusal, or else with 22 where the names break B2 or the room is too short; nothing
 /// is written then.
 ///
@@ -95,7 +95,7 @@ pub fn batch_bytes(file: &[u8], names: &[u8], room: &mut [u8]) -> Result<(), Ref
     sys::batch(file, names, room).map(|_| ())
 }
 
-/// Puts a name behind those for [`batch_bytes`]: its length, an ENCINT, and its bytes.
+/// Puts a name behind those for [`batch_bytes`]: its length, an ENCINT in its short form, and its bytes.
 pub fn push_name(names: &mut Vec<u8>, name: impl AsRef<[u8]>) {
     let name = name.as_ref();
     encint::push(names, name.len() as u64);

@@ -3,7 +3,6 @@
 use std::fmt;
 
 use crate::chain;
-use crate::encint;
 use crate::entry::{Entry, Lookup, Trail};
 use crate::listing::{Cursor, Entries, Steps};
 use crate::record::Record;
@@ -174,18 +173,6 @@ impl<'a> Book<'a> {
         let place = self.record.content_start.checked_add(entry.offset())?;
         let bytes = self.part(place, entry.length());
         (entry.section() == 0 && bytes.len() as u64 == entry.length()).then_some(bytes)
-    }
-
-    /// An entry as it stands in its chunk, from the name's length to the last number. Each number has one ENCINT, so its size is known.
-    pub fn entry_bytes(&self, entry: &Entry<'_>) -> &'a [u8] {
-        let size = entry.name().len() as u64;
-        let ahead = encint::size(size);
-        let numbers = [entry.section().into(), entry.offset(), entry.length()];
-        let behind: u64 = numbers.into_iter().map(encint::size).sum();
-        match entry.name_place().checked_sub(ahead) {
-            Some(place) => self.part(place, ahead + size + behind),
-            None => &[],
-        }
     }
 }
 

@@ -1,12 +1,12 @@
 //! ENCINTs: seven bits a byte, highest group first, bit 7 set in every byte but the last.
 
-/// How many bytes the ENCINT of a number has.
-pub fn size(n: u64) -> u64 {
+/// How many bytes the ENCINT of a number has in its short form.
+fn size(n: u64) -> u64 {
     let bits = 64 - u64::from((n | 1).leading_zeros());
     (bits + 6) / 7
 }
 
-/// Writes the ENCINT of a number. From 2^63 on it has ten bytes, which the library refuses.
+/// Writes the ENCINT of a number in its short form (docs/FORMAT.md, N4). From 2^63 on it has ten bytes, which the library refuses.
 pub fn push(out: &mut Vec<u8>, n: u64) {
     for group in (1..size(n)).rev() {
         out.push(0x80 | (n >> (7 * group)) as u8);

@@ -1,37 +1,53 @@
 //! Entries of a book, and what a lookup answers.
 
 use std::fmt;
+use std::hash::{Hash, Hasher};
 use std::ops::Deref;
 
+use crate::own;
 use crate::sys::{ENTRY, TRAIL};
 
 /// One listing entry of a book. Its name is lent from the book's bytes.
-#[derive(Clone, Copy, PartialEq, Eq, Hash)]
+///
+/// Entries are equal where their names, places and numbers are, however they were come by: listed, looked up or compared.
+#[derive(Clone, Copy)]
 pub struct Entry<'a> {
-    name: &'a [u8],
+    file: &'a [u8],
     place: u64,
+    size: u16,
     section: u16,
     offset: u64,
     length: u64,
+    /// Its number in its chunk, which a listing tells and a search does not.
+    number: Option<u32>,
 }
 
 impl<'a> Entry<'a> {
     /// The entry of the library's five numbers, on a file where it was found.
     pub(crate) fn of(file: &'a [u8], numbers: &[u64]) -> Entry<'a> {
-        let [place, size] = [numbers[0] as usize, numbers[1] as usize];
         debug_assert_eq!(numbers.len(), ENTRY);
         Entry {
-            name: &file[place..place + size],
+            file,
             place: numbers[0],
+            size: numbers[1] as u16,
             section: numbers[2] as u16,
             offset: numbers[3],
             length: numbers[4],
+            number: None,
+        }
+    }
+
+    /// The same for the entry of this number in its chunk.
+    pub(crate) fn listed(file: &'a [u8], numbers: &[u64], number: u64) -> Entry<'a> {
+        Entry {
+            number: Some(number as u32),
+            ..Entry::of(file, numbers)
         }
     }
 
     /// The name as stored: 1 to 1,024 bytes of any value.
     pub fn name(&self) -> &'a [u8] {
-        self.name
+        &self.file[self.place as usize..][..self.size.into()]
     }
 
     /// Where the name stands in the file.
@@ -53,12 +69,56 @@ impl<'a> Entry<'a> {
     pub fn length(&self) -> u64 {
         self.length
     }
+
+    /// The entry's own bytes as they stand in the file, from its name's length to its last number: a padded number with its leading bytes 80 (docs/FORMAT.md, N4, K25).
+    /// Bytes in section 0 that the entry leads to are those of [`Book::stored`](crate::Book::stored).
+    ///
+    /// The library checks the entry's chunk again to tell where they are, so that this is slower than the numbers; it also lists the chunk once for an entry that
+    /// was looked up or compared.
+    ///
+    /// ```
+    /// let file = std::fs::read("../../samples/sample.chm")?;
+    /// let book = hodsplinter::Book::open(&file)?;
+    /// let entry = book.find("/A.htm")?.unwrap();
+    /// assert_eq!(entry.stored_bytes(), b"\x06/a.htm\x00\x00\x05");
+    /// # Ok::<(), Box<dyn std::error::Error>>(())
+    /// ```
+    ///
+    /// # Panics
+    ///
+    /// That the library tells of the bytes of each entry that it gave is proved. Should it not, this panics rather than give others.
+    pub fn stored_bytes(&self) -> &'a [u8] {
+        match own::bytes(self.file, self.place, self.number) {
+            Some(bytes) => bytes,
+            None => panic!("the own bytes of {self:?}"),
+        }
+    }
+
+    /// What the library told of it.
+    fn told(&self) -> (&[u8], u64, u16, u64, u64) {
+        let name = self.name();
+        (name, self.place, self.section, self.offset, self.length)
+    }
+}
+
+impl PartialEq for Entry<'_> {
+    fn eq(&self, other: &Entry<'_>) -> bool {
+        self.told() == other.told()
+    }
+}
+
+impl Eq for Entry<'_> {}
+
+impl Hash for Entry<'_> {
+    fn hash<H: Hasher>(&self, state: &mut H) {
+        self.told().hash(state);
+    }
 }
 
 impl fmt::Debug for Entry<'_> {
     fn fmt(&self, f: &mut fmt::Formatter<'_>) -> fmt::Result {
         f.debug_struct("Entry")
-            .field("name", &self.name.escape_ascii().to_string())
+            .field("name", &self.name().escape_ascii().to_string())
             .field("section", &self.section)
             .field("offset", &self.offset)
             .field("length", &self.length)

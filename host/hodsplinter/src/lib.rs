@@ -11,7 +11,7 @@
 //! - [`batch`] opens a book and looks many names up, in one call.
 //! - [`compare`] lays two books side by side and gives each [`Change`], in the order of names.
 //! - [`Chain::open`] takes books with a broken index too, for scans alone.
-//! - [`Book::stored`] lends the bytes of an entry of section 0, [`Book::part`] any part of the file.
+//! - [`Book::stored`] lends the bytes that an entry of section 0 leads to, [`Entry::stored_bytes`] the entry's own, [`Book::part`] any part of the file.
 //! - [`write_head`] makes the head of a new book from entries, which rise by [`name_order`].
 //!
 //! `cargo build` links `target/staticlib/libhodsplinter.a`, which `rt staticlib hodsplinter` makes; the environment variable `HODSPLINTER_LIB` can
@@ -28,6 +28,7 @@ mod encint;
 mod entry;
 mod listing;
 mod order;
+mod own;
 #[allow(unsafe_code)]
 mod raw;
 mod record;

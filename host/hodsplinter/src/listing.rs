@@ -7,9 +7,6 @@ use crate::entry::Entry;
 use crate::refusal::Refusal;
 use crate::sys;
 
-/// Numbers that are always enough for the entries of one chunk.
-const PAGE: usize = 4_070;
-
 /// The chunk number behind the last listing chunk.
 const NONE: u64 = 0xFFFF_FFFF;
 
@@ -32,7 +29,7 @@ impl<'a> Entries<'a> {
     pub(crate) fn of(book: Book<'a>) -> Entries<'a> {
         Entries {
             book,
-            page: vec![0; PAGE],
+            page: vec![0; sys::PAGE],
             at: 0,
             end: 0,
             chunk: book.record().first.into(),
@@ -62,8 +59,9 @@ impl<'a> Iterator for Entries<'a> {
             self.turn();
         }
         let numbers = &self.page[self.at..self.at + sys::ENTRY];
+        let number = self.at / sys::ENTRY;
         self.at += sys::ENTRY;
-        Some(Entry::of(self.book.file(), numbers))
+        Some(Entry::listed(self.book.file(), numbers, number as u64))
     }
 }
 
@@ -136,8 +134,9 @@ impl<'a> Iterator for Steps<'a> {
         }
         let mut entry = [0; sys::ENTRY];
         let (file, record) = (self.book.file(), self.book.record().numbers());
+        let number = self.cursor[1];
         match sys::step(file, &record, &mut self.cursor, &mut entry) {
-            Ok(true) => Some(Ok(Entry::of(file, &entry))),
+            Ok(true) => Some(Ok(Entry::listed(file, &entry, number))),
             Ok(false) => None,
             Err(refusal) => {
                 self.refused = true;

@@ -53,6 +53,13 @@ extern "C" {
         cursor: *mut u64,
         entry: *mut u64,
     ) -> u64;
+    fn hods_own(
+        file: *const u8,
+        len: usize,
+        record: *const u64,
+        cursor: *const u64,
+        part: *mut u64,
+    ) -> u64;
     fn hods_chunk(
         file: *const u8,
         len: usize,
@@ -181,6 +188,18 @@ pub fn step(
             record.as_ptr(),
             cursor.as_mut_ptr(),
             entry.as_mut_ptr(),
+        )
+    }
+}
+
+pub fn own(file: &[u8], record: &[u64; RECORD], cursor: &[u64; 2], part: &mut [u64; 2]) -> u64 {
+    unsafe {
+        hods_own(
+            file.as_ptr(),
+            file.len(),
+            record.as_ptr(),
+            cursor.as_ptr(),
+            part.as_mut_ptr(),
         )
     }
 }

@@ -126,7 +126,7 @@ const MEANINGS: [(&str, &str); 22] = [
     ),
     (
         "W2",
-        "no entries, an entry that breaks a rule, names that do not rise, or a density or content length out of its bounds",
+        "no entries, an entry that breaks a rule or has a padded number, names that do not rise, or a density or content length out of its bounds",
     ),
     ("D8, D11", "the head would need more than 4,096 chunks or a depth above 5"),
     ("", "the lent output is shorter than the head"),

@@ -10,6 +10,9 @@ pub const ENTRY: usize = 5;
 /// Places of a trail that are always enough.
 pub const TRAIL: usize = 5;
 
+/// Numbers that are always enough for the entries of one chunk.
+pub const PAGE: usize = 4_070;
+
 /// How many numbers the cursor of a comparison has: two walks of five, four totals.
 pub const COMPARISON: usize = 14;
 
@@ -19,7 +22,7 @@ pub const COMPARED: usize = 7;
 /// How many numbers a difference has: its kind, and those of two entries.
 pub const DIFFERENCE: usize = 1 + 2 * COMPARED;
 
-/// What a function answered: true for 0, false for 255 (absent, at the end, too few places), else the refusal.
+/// What a function answered: true for 0, false for 255 (absent, at the end, no entry, too few places), else the refusal.
 pub type Told = Result<bool, Refusal>;
 
 fn told(code: u64) -> Told {
@@ -76,6 +79,10 @@ pub fn step(
     entry: &mut [u64; ENTRY],
 ) -> Told {
     told(raw::step(file, record, cursor, entry))
+}
+
+pub fn own(file: &[u8], record: &[u64; RECORD], cursor: &[u64; 2], part: &mut [u64; 2]) -> Told {
+    told(raw::own(file, record, cursor, part))
 }
 
 pub fn chunk(

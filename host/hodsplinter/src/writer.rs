@@ -107,3 +107,33 @@ where
     out.shrink_to_fit();
     Ok(out)
 }
+
+#[cfg(test)]
+mod tests {
+    use super::*;
+
+    /// The number of the refusal of these bytes, or none.
+    fn refused(source: &[u8]) -> Option<u8> {
+        let (mut out, mut length) = (vec![0; 204 + 4096], [0]);
+        let told = sys::write_head(source, [2, 0, 0x409], 5, &mut out, &mut length);
+        assert!(told.is_ok() || out.iter().all(|b| *b == 0) && length == [0]);
+        told.err().map(Refusal::number)
+    }
+
+    /// `NewEntry` has no way to say a padded number; bytes have one, and W2 asks for the short form.
+    #[test]
+    fn padded_numbers() {
+        let first = b"\x01/\x00\x00\x00";
+        let short = [&b"\x02"[..], b"/a", b"\x00", b"\x02", b"\x03"];
+        let source = |fields: &[&[u8]]| [first, &fields.concat()[..]].concat();
+        assert_eq!(refused(&source(&short)), None);
+        for (k, field) in short.iter().enumerate().filter(|(k, _)| *k != 1) {
+            for many in [1, 2, 8, 9] {
+                let long = [&vec![0x80; many][..], field].concat();
+                let mut fields = short;
+                fields[k] = &long;
+                assert_eq!(refused(&source(&fields)), Some(18), "{fields:?}");
+            }
+        }
+    }
+}

@@ -133,6 +133,30 @@ fn room() {
     assert_eq!(asked(b"", 0), (vec![0x4D; ANSWER], None));
 }
 
+/// A name behind its length and so many bytes 80.
+fn padded(many: usize, length: u8, name: &[u8]) -> Vec<u8> {
+    [&vec![0x80; many][..], &[length], name].concat()
+}
+
+/// A padded length is the same length (docs/FORMAT.md, N4), up to nine bytes of it.
+#[test]
+fn padded_lengths() {
+    for many in [0, 1, 2, 8] {
+        let names = [
+            padded(many, 1, b"/"),
+            padded(many, 6, b"/A.HTM"),
+            padded(many, 2, b"/b"),
+            padded(many, 0, b""),
+        ];
+        let (bytes, refused) = asked(&names.concat(), 4 * ANSWER);
+        assert_eq!(refused, None);
+        let told: Vec<_> = read_answers(&bytes[..4 * ANSWER])
+            .map(|a| numbers(&a))
+            .collect();
+        assert_eq!(told, TOLD[..4]);
+    }
+}
+
 /// Names that break docs/FORMAT.md, B2. A long length alone is no fault: the name must be there.
 #[test]
 fn names_that_are_none() {
@@ -142,11 +166,13 @@ fn names_that_are_none() {
     for bad in [
         &good[..good.len() - 1],
         &[&good[..], &[0x01]].concat(),
-        &[&good[..], &[0x80, 0x01, b'/']].concat(),
+        &[&good[..], &[0x80]].concat(),
         &[0x80, 0x01],
+        &[0x80],
         &[0x81],
         &highest,
         &ten,
+        &padded(9, 1, b"/"),
     ] {
         assert_eq!(asked(bad, 320), (vec![0x4D; 320 + ANSWER], Some(22)));
     }

@@ -201,7 +201,7 @@ fn entries_outlive_the_other_book() {
         let (one, two) = (Book::open(&old).unwrap(), Book::open(&new).unwrap());
         let changes: Vec<Change> = compare(&one, &two).collect();
         let second = changes[1].second().unwrap();
-        assert_eq!(two.entry_bytes(&second), b"\x06/A.htm\x00\x00\x04");
+        assert_eq!(second.stored_bytes(), b"\x06/A.htm\x00\x00\x04");
         assert_eq!(two.stored(&second), Some(&b"nine"[..]));
         assert_eq!((changes[0].second(), changes.len()), (None, 2));
         [changes[0].first(), changes[1].first()]

@@ -57,7 +57,7 @@ fn the_entries_of_a_book() {
     assert!(again.entries().map(NewEntry::from).eq(entries));
     for (a, b) in book.entries().zip(again.entries()) {
         assert_eq!(book.stored(&a), again.stored(&b));
-        assert_eq!(book.entry_bytes(&a), again.entry_bytes(&b));
+        assert_eq!(a.stored_bytes(), b.stored_bytes());
         assert_eq!(again.lookup(a.name()).unwrap().entry(), Some(b));
     }
 }

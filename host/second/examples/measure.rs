@@ -26,8 +26,8 @@ impl Asked {
         };
         let record = second::open(&book).expect("a book");
         let mut entries = Vec::new();
-        each_report(&book, &record, |report| {
-            entries.extend(second::entry_bytes(&book, &report));
+        each_entry(&book, &record, |listed| {
+            entries.extend(second::own_bytes(&book, &listed));
         });
         let (there, missing) = (of(b'+'), of(b'-'));
         let path = path.to_string();
@@ -42,11 +42,11 @@ impl Asked {
     }
 }
 
-fn each_report(book: &[u8], record: &second::Record, mut told: impl FnMut(second::Report)) {
+fn each_entry(book: &[u8], record: &second::Record, mut told: impl FnMut(second::Listed)) {
     let mut chunk = record.first;
     while chunk != u64::from(second::NONE) {
-        let (reports, next) = second::chunk_entries(book, record, chunk).expect("a listing chunk");
-        reports.into_iter().for_each(&mut told);
+        let (entries, next) = second::chunk_listed(book, record, chunk).expect("a listing chunk");
+        entries.into_iter().for_each(&mut told);
         chunk = u64::from(next);
     }
 }
@@ -88,7 +88,8 @@ fn measure_find_miss(asked: &Asked) -> u64 {
 #[inline(never)]
 fn measure_list(asked: &Asked) -> u64 {
     let mut sum = 0;
-    each_report(&asked.book, &asked.record, |report| {
+    each_entry(&asked.book, &asked.record, |listed| {
+        let report = listed.report;
         let last = asked.book[(report.place + report.length - 1) as usize];
         sum += report.offset + report.size + u64::from(last);
     });

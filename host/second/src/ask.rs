@@ -3,7 +3,7 @@
 use crate::chunk::{read_chunk, Chunk, Entry, Limits, Stored, CHUNK};
 use crate::name::compare;
 use crate::open::DIRECTORY_HEADER;
-use crate::{require, Answer, Cursor, Record, Refusal, Reply, Report, Step, NONE};
+use crate::{require, Answer, Cursor, Listed, Record, Refusal, Reply, Report, Step, NONE};
 use std::cmp::Ordering;
 
 /// Looks a name up. `places` is the length of the trail that a caller lends; the answer's trail
@@ -45,7 +45,7 @@ fn descend(file: &[u8], record: &Record, name: &[u8]) -> Result<Answer, Refusal>
             Chunk::Listing { entries, .. } if level == 1 => {
                 return Ok(match holding(&entries, name) {
                     Some(entry) => Answer::Found {
-                        report: book.report(at, entry),
+                        report: book.listed(at, entry).report,
                         trail,
                     },
                     None => Answer::Absent { trail },
@@ -87,7 +87,7 @@ fn follow(file: &[u8], record: &Record, name: &[u8]) -> Result<Reply, Refusal> {
     for _ in 0..record.count {
         let (entries, next) = book.meet_listing(at)?;
         if let Some(entry) = holding(&entries, name) {
-            return Ok(Reply::Found(book.report(at, entry)));
+            return Ok(Reply::Found(book.listed(at, entry).report));
         }
         if next == NONE {
             return Ok(Reply::Absent);
@@ -116,10 +116,7 @@ fn try_step(file: &[u8], record: &Record, cursor: Cursor) -> Result<Step, Refusa
         return Ok(Step::End(cursor));
     }
     let (entries, next) = book.meet_listing(cursor.chunk)?;
-    let entry = usize::try_from(cursor.entry)
-        .ok()
-        .and_then(|index| entries.get(index))
-        .ok_or(Refusal::new(17))?;
+    let entry = entry_at(&entries, cursor)?;
     let moved = if cursor.entry + 1 < entries.len() as u64 {
         Cursor {
             chunk: cursor.chunk,
@@ -131,19 +128,49 @@ fn try_step(file: &[u8], record: &Record, cursor: Cursor) -> Result<Step, Refusa
             entry: 0,
         }
     };
-    Ok(Step::Entry(book.report(cursor.chunk, entry), moved))
+    Ok(Step::Entry(book.listed(cursor.chunk, entry).report, moved))
 }
 
-/// All entries of one listing chunk and the chunk's next, or 17.
+/// The cursor's entry, of the entries of its chunk.
+fn entry_at<'b, 'a>(
+    entries: &'b [Entry<'a, Stored>],
+    cursor: Cursor,
+) -> Result<&'b Entry<'a, Stored>, Refusal> {
+    let index = usize::try_from(cursor.entry).ok();
+    let entry = index.and_then(|index| entries.get(index));
+    entry.ok_or(Refusal::new(17)) // FORMAT K13
+}
+
+/// Where the own bytes of the cursor's entry stand in the file, and how many they are; nothing
+/// where a step reports no entry (FORMAT K25).
+pub fn own(file: &[u8], record: &Record, cursor: Cursor) -> Option<(u64, u64)> {
+    let book = Asked::new(file, record).ok()?;
+    // At the end there is no chunk to meet (FORMAT K10): none is not below a count.
+    let (entries, _) = book.meet_listing(cursor.chunk).ok()?;
+    let listed = book.listed(cursor.chunk, entry_at(&entries, cursor).ok()?);
+    Some((listed.place, listed.length))
+}
+
+/// All entries of one listing chunk with their own bytes, and the chunk's next, or 17.
+pub fn chunk_listed(
+    file: &[u8],
+    record: &Record,
+    chunk: u64,
+) -> Result<(Vec<Listed>, u32), Refusal> {
+    let book = Asked::new(file, record)?;
+    let (entries, next) = book.meet_listing(chunk)?;
+    let listed = entries.iter().map(|entry| book.listed(chunk, entry));
+    Ok((listed.collect(), next))
+}
+
+/// The same without their own bytes.
 pub fn chunk_entries(
     file: &[u8],
     record: &Record,
     chunk: u64,
 ) -> Result<(Vec<Report>, u32), Refusal> {
-    let book = Asked::new(file, record)?;
-    let (entries, next) = book.meet_listing(chunk)?;
-    let reports = entries.iter().map(|entry| book.report(chunk, entry));
-    Ok((reports.collect(), next))
+    let (listed, next) = chunk_listed(file, record, chunk)?;
+    Ok((listed.iter().map(|listed| listed.report).collect(), next))
 }
 
 /// The bytes from `place` on, `length` of them; none if they are not all inside (FORMAT K15).
@@ -203,14 +230,19 @@ impl<'a> Asked<'a> {
         }
     }
 
-    /// The five numbers of an entry of a chunk that was met (FORMAT K6).
-    fn report(&self, chunk: u64, entry: &Entry<Stored>) -> Report {
-        Report {
-            place: self.place(chunk) as u64 + entry.name_place as u64,
-            length: entry.name.len() as u64,
-            section: entry.value.section,
-            offset: entry.value.offset,
-            size: entry.value.size,
+    /// The numbers of an entry of a chunk that lies inside the file (FORMAT K6, K25).
+    pub fn listed(&self, chunk: u64, entry: &Entry<Stored>) -> Listed {
+        let start = self.place(chunk) as u64;
+        Listed {
+            report: Report {
+                place: start + entry.name_place as u64,
+                length: entry.name.len() as u64,
+                section: entry.value.section,
+                offset: entry.value.offset,
+                size: entry.value.size,
+            },
+            place: start + entry.own.start as u64,
+            length: entry.own.len() as u64,
         }
     }
 }

@@ -2,6 +2,7 @@
 
 use crate::name::rise;
 use crate::number::{number_at, Reader};
+use std::ops::Range;
 
 pub(crate) const CHUNK: usize = 4096;
 pub(crate) const LISTING_HEADER: usize = 20;
@@ -17,6 +18,9 @@ pub(crate) struct Limits {
 
 /// An entry of a chunk; `value` is what follows the name.
 pub(crate) struct Entry<'a, Value> {
+    /// Its own bytes as they stand, from the start of the chunk: no number has to be in its short
+    /// form, so they do not follow from the numbers (FORMAT N4, K25).
+    pub own: Range<usize>,
     /// Where the name stands, from the start of the chunk.
     pub name_place: usize,
     pub name: &'a [u8],
@@ -99,17 +103,10 @@ fn read_body<'a, Value>(
     }
     let body = &bytes[header..CHUNK - tail as usize];
 
-    let mut starts = Vec::new();
     let mut entries = Vec::new();
     let mut reader = Reader::new(body);
     for _ in 0..c {
-        starts.push(reader.at() as u64);
-        let (name_at, name) = read_name(&mut reader).ok_or(10)?;
-        entries.push(Entry {
-            name_place: header + name_at,
-            name,
-            value: read_value(&mut reader, limits).ok_or(10)?,
-        });
+        entries.push(read_entry(&mut reader, header, limits, read_value).ok_or(10)?);
     }
     if !reader.at_end() {
         return Err(10); // FORMAT C3
@@ -118,21 +115,34 @@ fn read_body<'a, Value>(
         return Err(12); // FORMAT C12
     }
     let word = |k: u64| number_at(bytes, CHUNK - 2 - 2 * k as usize, 2);
-    let place = |k: u64| starts[(k * quick_step(limits.density)) as usize];
-    if (1..=words).any(|k| word(k) != place(k)) {
+    let place = |k: u64| entries[(k * quick_step(limits.density)) as usize].own.start - header;
+    if (1..=words).any(|k| word(k) != place(k) as u64) {
         return Err(11); // FORMAT C8
     }
     Ok(entries)
 }
 
-/// A name with its length in front: where the name stands in the reader's bytes, and the name.
-pub(crate) fn read_name<'a>(reader: &mut Reader<'a>) -> Option<(usize, &'a [u8])> {
+/// Reads the entry that comes next. The reader's bytes start at `base` in the chunk.
+pub(crate) fn read_entry<'a, Value>(
+    reader: &mut Reader<'a>,
+    base: usize,
+    limits: &Limits,
+    read_value: fn(&mut Reader, &Limits) -> Option<Value>,
+) -> Option<Entry<'a, Value>> {
+    let start = base + reader.at();
     let length = reader.encint()?;
     if !(1..=1024).contains(&length) {
         return None; // FORMAT E4
     }
-    let at = reader.at();
-    Some((at, reader.take(length as usize)?))
+    let name_place = base + reader.at();
+    let name = reader.take(length as usize)?;
+    let value = read_value(reader, limits)?;
+    Some(Entry {
+        own: start..base + reader.at(),
+        name_place,
+        name,
+        value,
+    })
 }
 
 /// What follows the name in a listing entry (FORMAT E1, E5, E6).

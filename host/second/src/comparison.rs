@@ -1,7 +1,7 @@
 //! Two books side by side (FORMAT, Comparison).
 
 use crate::ask::Asked;
-use crate::chunk::{read_name, read_stored, CHUNK, LISTING_HEADER};
+use crate::chunk::{read_entry, read_stored, CHUNK, LISTING_HEADER};
 use crate::name::compare;
 use crate::number::Reader;
 use crate::{Record, Refusal, Report, NONE};
@@ -51,7 +51,7 @@ pub struct Totals {
 #[derive(Debug, Clone, Copy, PartialEq, Eq)]
 pub struct Listed {
     pub report: Report,
-    /// Where the entry's own bytes stand in the file, from its name's length on.
+    /// Where the entry's own bytes stand in the file, from its name's length on (FORMAT K25).
     pub place: u64,
     /// How many they are.
     pub length: u64,
@@ -181,14 +181,14 @@ struct Met<'a> {
 fn ahead(side: Side, walk: Walk) -> Result<Ahead, Refusal> {
     let book = Asked::new(side.file, side.record)?;
     if walk.left > 0 {
-        let entry = Some(read_entry(&book, walk)?);
+        let entry = Some(meet_entry(&book, walk)?);
         return Ok(Ahead { walk, entry });
     }
     if walk.next == u64::from(NONE) && walk.more < side.record.count {
         return Ok(Ahead { walk, entry: None });
     }
     let entered = enter(&book, walk)?;
-    let entry = Some(read_entry(&book, entered)?);
+    let entry = Some(meet_entry(&book, entered)?);
     Ok(Ahead {
         walk: entered,
         entry,
@@ -209,34 +209,20 @@ fn enter(book: &Asked, walk: Walk) -> Result<Walk, Refusal> {
 }
 
 /// Reads the entry at the walk's place; entries are left (FORMAT X5).
-fn read_entry<'a>(book: &Asked<'a>, walk: Walk) -> Result<Met<'a>, Refusal> {
+fn meet_entry<'a>(book: &Asked<'a>, walk: Walk) -> Result<Met<'a>, Refusal> {
     let refused = Refusal::new(17);
     let chunk = book.chunk_bytes(walk.chunk).ok_or(refused)?;
     if walk.place > CHUNK as u64 {
         return Err(refused);
     }
-    let mut reader = Reader::new(&chunk[walk.place as usize..]);
-    let (name_at, name) = read_name(&mut reader).ok_or(refused)?;
-    let stored = read_stored(&mut reader, &book.limits).ok_or(refused)?;
-    let length = reader.at() as u64;
-    // The chunk lies inside the file, so this is a place in it.
-    let place = book.place(walk.chunk) as u64 + walk.place;
-    let report = Report {
-        place: place + name_at as u64,
-        length: name.len() as u64,
-        section: stored.section,
-        offset: stored.offset,
-        size: stored.size,
-    };
+    let at = walk.place as usize;
+    let mut reader = Reader::new(&chunk[at..]);
+    let entry = read_entry(&mut reader, at, &book.limits, read_stored).ok_or(refused)?;
     Ok(Met {
-        name,
-        listed: Listed {
-            report,
-            place,
-            length,
-        },
+        name: entry.name,
+        listed: book.listed(walk.chunk, &entry),
         behind: Walk {
-            place: walk.place + length,
+            place: entry.own.end as u64,
             left: walk.left - 1,
             ..walk
         },

@@ -1,8 +1,7 @@
 //! What the programs write for their input (FORMAT, Programs).
 
-use crate::number::encint;
-use crate::{chunk_entries, compare_start, compare_step, open, part, require};
-use crate::{Compared, Difference, Listed, Record, Refusal, Report, Side};
+use crate::{chunk_listed, compare_start, compare_step, open, part, require};
+use crate::{Compared, Difference, Listed, Record, Refusal, Side};
 
 /// What `list` writes: one line for each entry of the book, or one for the refusal.
 pub fn frames(input: &[u8]) -> String {
@@ -52,8 +51,8 @@ fn refusal_frame(refusal: Refusal) -> Vec<u8> {
 fn entry_frames(file: &[u8], record: &Record) -> Vec<Vec<u8>> {
     let mut frames = Vec::new();
     let mut chunk = record.first;
-    while let Ok((reports, next)) = chunk_entries(file, record, chunk) {
-        frames.extend(reports.iter().map(|report| entry_bytes(file, report)));
+    while let Ok((listed, next)) = chunk_listed(file, record, chunk) {
+        frames.extend(listed.iter().map(|listed| own_bytes(file, listed).to_vec()));
         chunk = u64::from(next);
     }
     frames
@@ -61,7 +60,7 @@ fn entry_frames(file: &[u8], record: &Record) -> Vec<Vec<u8>> {
 
 /// The differences in their order (FORMAT P8). Both books have been opened, so no step is refused.
 fn difference_frames(one: Side, two: Side) -> Vec<Vec<u8>> {
-    let own = |side: Side, listed: &Listed| part(side.file, listed.place, listed.length).to_vec();
+    let own = |side: Side, listed: &Listed| own_bytes(side.file, listed).to_vec();
     let mut frames = Vec::new();
     let mut progress = compare_start(one.record, two.record);
     while let Compared::Difference(difference, behind) = compare_step(one, two, &progress) {
@@ -77,17 +76,9 @@ fn difference_frames(one: Side, two: Side) -> Vec<Vec<u8>> {
     frames
 }
 
-/// An entry's own bytes. A value has one ENCINT (FORMAT N4), so they follow from its numbers.
-pub fn entry_bytes(file: &[u8], report: &Report) -> Vec<u8> {
-    let name = part(file, report.place, report.length);
-    [
-        encint(report.length),
-        name.to_vec(),
-        encint(report.section),
-        encint(report.offset),
-        encint(report.size),
-    ]
-    .concat()
+/// An entry's own bytes as they stand, leading 80 bytes with them (FORMAT P3, P8).
+pub fn own_bytes<'a>(file: &'a [u8], listed: &Listed) -> &'a [u8] {
+    part(file, listed.place, listed.length)
 }
 
 fn hexadecimal(bytes: &[u8]) -> String {

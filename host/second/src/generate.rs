@@ -2,7 +2,7 @@
 //!
 //! A case follows from a seed and its number alone. It says what it aims at where that is known,
 //! so that the generators can be tested too: a refusal, an answer that is none, for a search the
-//! entry that is found, or for a batch all answers.
+//! entry that is found, for a step the one that is reported, or for a batch all answers.
 
 pub mod ask;
 pub mod book;
@@ -11,6 +11,7 @@ pub mod damage;
 pub mod large;
 pub mod names;
 pub mod opening;
+mod padding;
 pub mod pairs;
 pub mod plan;
 pub mod questions;
@@ -20,8 +21,8 @@ pub mod write;
 pub use random::Random;
 
 use crate::{
-    batch, chunk_entries, lookup, lookup_opened, open, scan, step, write_head, Cursor, Expected,
-    Record, Refusal, Reply, Report, Step,
+    batch, chunk_entries, lookup, lookup_opened, open, own, scan, step, write_head, Cursor,
+    Expected, Listed, Record, Refusal, Reply, Report, Step,
 };
 
 /// What is asked of a file.
@@ -52,6 +53,7 @@ pub enum Call {
     Start {
         record: Record,
     },
+    /// With the own bytes of the entry that it reports.
     Step {
         record: Record,
         cursor: Cursor,
@@ -110,6 +112,8 @@ pub enum Aim {
     /// The name is found in the entry of this report.
     Found(Report),
     Absent,
+    /// A step reports this entry, with these own bytes.
+    Listed(Listed),
     /// The name is found where it stands, or absent: no rule says which (FORMAT K24).
     FoundThereOrAbsent,
     /// The answers of a batch, in these bytes.
@@ -133,6 +137,7 @@ impl Aim {
             Aim::Good => outcome.refusal().is_none(),
             Aim::Found(report) => *outcome == Outcome::Found(*report),
             Aim::Absent => *outcome == Outcome::Absent,
+            Aim::Listed(listed) => *outcome == Outcome::Listed(*listed),
             Aim::FoundThereOrAbsent => *outcome == Outcome::FoundThereOrAbsent,
             Aim::Answers(aimed) => matches!(outcome, Outcome::Answers(answers) if answers == aimed),
             Aim::Refused(aimed) => *outcome == Outcome::Refused(*aimed),
@@ -146,6 +151,7 @@ impl Aim {
 pub enum Outcome {
     Found(Report),
     Absent,
+    Listed(Listed),
     FoundThereOrAbsent,
     Answers(Vec<u8>),
     Refused(Refusal),
@@ -166,6 +172,19 @@ impl Outcome {
             Reply::Found(report) => Outcome::Found(report),
             Reply::Absent => Outcome::Absent,
             Reply::Refused(refusal) => Outcome::Refused(refusal),
+        }
+    }
+
+    /// What a step reports, with the own bytes at its cursor.
+    fn of_step(step: Step, own: Option<(u64, u64)>) -> Outcome {
+        match (step, own) {
+            (Step::Entry(report, _), Some((place, length))) => Outcome::Listed(Listed {
+                report,
+                place,
+                length,
+            }),
+            (Step::Refused(refusal), _) => Outcome::Refused(refusal),
+            _ => Outcome::Other,
         }
     }
 
@@ -261,10 +280,10 @@ pub fn outcome_of(file: &[u8], call: &Call) -> Outcome {
             Err(refusal) => Some(refusal),
         },
         Call::Open => open(file).err(),
-        Call::Step { record, cursor } => match step(file, record, *cursor) {
-            Step::Refused(refusal) => Some(refusal),
-            _ => None,
-        },
+        Call::Step { record, cursor } => {
+            let own = own(file, record, *cursor);
+            return Outcome::of_step(step(file, record, *cursor), own);
+        }
         Call::Page { record, chunk, .. } => chunk_entries(file, record, *chunk).err(),
         Call::Start { .. } | Call::Part { .. } => None,
         Call::Write(input) => input.head().err(),

@@ -19,13 +19,13 @@ mod open;
 mod opened;
 mod write;
 
-pub use ask::{chunk_entries, lookup, part, scan, start, step};
+pub use ask::{chunk_entries, chunk_listed, lookup, own, part, scan, start, step};
 pub use batch::{batch, batch_after, batch_names, ANSWER};
 pub use chunk::quick_words;
 pub use comparison::{
     compare_start, compare_step, Compared, Difference, Listed, Progress, Side, Totals, Walk,
 };
-pub use frames::{diff_frames, entry_bytes, frames};
+pub use frames::{diff_frames, frames, own_bytes};
 pub use name::{compare, order};
 pub use number::{encint, read_encint};
 pub use open::open;

@@ -9,11 +9,9 @@ pub(crate) fn number_at(bytes: &[u8], place: usize, width: usize) -> u64 {
         .fold(0, |value, &byte| value << 8 | u64::from(byte))
 }
 
-/// The ENCINT at the front of `bytes`: its value and how many bytes it takes (FORMAT N2 to N6).
+/// The ENCINT at the front of `bytes`: its value and how many bytes it takes, leading 80 bytes with
+/// them (FORMAT N2 to N4, N6).
 pub fn read_encint(bytes: &[u8]) -> Option<(u64, usize)> {
-    if bytes.first() == Some(&0x80) {
-        return None;
-    }
     let mut value = 0;
     for (index, &byte) in bytes.iter().take(9).enumerate() {
         // Nine groups of seven bits are 63 bits: no bit is shifted out.
@@ -25,7 +23,7 @@ pub fn read_encint(bytes: &[u8]) -> Option<(u64, usize)> {
     None
 }
 
-/// The one ENCINT of a value below 2^63.
+/// The short form of a value below 2^63 (FORMAT N4).
 pub fn encint(value: u64) -> Vec<u8> {
     assert!(value < 1 << 63, "no ENCINT has this value");
     let mut bytes = vec![(value & 0x7F) as u8];

@@ -1,7 +1,8 @@
 //! Writing the head of a new book (FORMAT, Writer).
 
 use crate::chunk::{
-    quick_step, quick_words, read_name, read_stored, Limits, CHUNK, INDEX_HEADER, LISTING_HEADER,
+    quick_step, quick_words, read_entry, read_stored, Entry, Limits, Stored, CHUNK, INDEX_HEADER,
+    LISTING_HEADER,
 };
 use crate::name::rise;
 use crate::number::{encint, Reader};
@@ -42,7 +43,7 @@ pub fn write_head(
     Ok(head.0)
 }
 
-/// An entry to be put into a chunk: its name, and all its bytes.
+/// An entry to be put into a chunk: its name, and all its bytes, each number in its short form.
 struct Item<'a> {
     name: &'a [u8],
     bytes: Vec<u8>,
@@ -61,16 +62,33 @@ fn read_items(entries: &[u8], content_length: u64) -> Option<Vec<Item<'_>>> {
     let mut items = Vec::new();
     let mut reader = Reader::new(entries);
     while !reader.at_end() {
-        let start = reader.at();
-        let (_, name) = read_name(&mut reader)?;
-        read_stored(&mut reader, &limits)?;
-        items.push(Item {
-            name,
-            bytes: entries[start..reader.at()].to_vec(),
-        });
+        let entry = read_entry(&mut reader, 0, &limits, read_stored)?;
+        let item = listing_item(&entry);
+        if entries[entry.own] != item.bytes {
+            return None; // a number is padded
+        }
+        items.push(item);
     }
     let good = !items.is_empty() && rise(items.iter().map(|item| item.name));
     good.then_some(items)
+}
+
+/// A listing entry, written from its numbers (FORMAT W3).
+fn listing_item<'a>(entry: &Entry<'a, Stored>) -> Item<'a> {
+    let Stored {
+        section,
+        offset,
+        size,
+    } = entry.value;
+    item(entry.name, &[section, offset, size])
+}
+
+/// The name with its length in front and these numbers behind it.
+fn item<'a>(name: &'a [u8], numbers: &[u64]) -> Item<'a> {
+    let mut bytes = encint(name.len() as u64);
+    bytes.extend(name);
+    bytes.extend(numbers.iter().flat_map(|&number| encint(number)));
+    Item { name, bytes }
 }
 
 /// The levels of the tree, listing chunks first (FORMAT W9 to W11).
@@ -84,9 +102,7 @@ fn plan(items: Vec<Item>, density: u32) -> Vec<Level> {
         }
         let mut items = Vec::new();
         for chunk in below {
-            let name = chunk[0].name;
-            let bytes = [encint(name.len() as u64), name.to_vec(), encint(number)].concat();
-            items.push(Item { name, bytes });
+            items.push(item(chunk[0].name, &[number]));
             number += 1;
         }
         // At least three of the longest index entries fit into a chunk, so levels get shorter.

@@ -69,6 +69,41 @@ fn refused(book: u64) -> Compared {
 
 const END: u64 = NONE as u64;
 
+/// The sample book with padded numbers: all of `/`, and the name length and the length of `/a.htm`.
+fn padded_book() -> Vec<u8> {
+    let entries = b"\x80\x01/\x80\0\x80\0\x80\0\x80\x80\x06/a.htm\0\0\x80\x05";
+    let mut file = sample_book();
+    file[224..224 + entries.len()].copy_from_slice(entries);
+    let tail = 4076 - entries.len() as u32;
+    file[208..212].copy_from_slice(&tail.to_le_bytes());
+    file
+}
+
+/// FORMAT N4, X7, X9, P8: padding is no difference, and comes with an entry's own bytes.
+#[test]
+fn padded_books_side_by_side() {
+    let (short, padded, other) = (sample_book(), padded_book(), other_book());
+    let records = [&short, &padded, &other].map(|file| open(file).unwrap());
+    let (one, two) = (side(&short, &records[0]), side(&padded, &records[1]));
+    for (one, two) in [(one, two), (two, one), (two, two)] {
+        let start = compare_start(one.record, two.record);
+        let end = Compared::End(totals([0, 0, 2, 0]));
+        assert_eq!(compare_step(one, two, &start), end);
+    }
+    let three = side(&other, &records[2]);
+    let start = compare_start(two.record, three.record);
+    match compare_step(two, three, &start) {
+        Compared::Difference(Difference::Changed(first, second), behind) => {
+            assert_eq!(first, listed([236, 6, 0, 0, 5, 233, 13]));
+            assert_eq!(second, listed([230, 6, 0, 0, 4, 229, 10]));
+            assert_eq!(behind.one.place, 20 + 22);
+        }
+        other => panic!("{other:?}"),
+    }
+    let lines = "038080062f612e68746d00008005062f412e68746d000004\n02022f62010709\n";
+    assert_eq!(diff_frames(&padded, &other), lines);
+}
+
 /// FORMAT P10, X3, X9, X10.
 #[test]
 fn sample_books_side_by_side() {

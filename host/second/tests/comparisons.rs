@@ -91,10 +91,21 @@ fn check_sets(given: &[Given; 2], differences: &[Difference], totals: Totals) {
     assert_eq!(only_second + same + changed, two.len() as u64);
 }
 
-/// An entry's own bytes stand where its difference says.
+/// An entry's own bytes stand where its difference says: its four numbers, padded or not, and its
+/// name.
 fn check_own(given: &Given, listed: &Listed) {
-    let own = part(&given.file, listed.place, listed.length);
-    assert_eq!(own, entry_bytes(&given.file, &listed.report));
+    let report = listed.report;
+    let own = own_bytes(&given.file, listed);
+    let (length, taken) = read_encint(own).unwrap();
+    assert_eq!(length, report.length);
+    assert_eq!(listed.place + taken as u64, report.place);
+    let mut at = taken + length as usize;
+    for number in [report.section, report.offset, report.size] {
+        let (value, taken) = read_encint(&own[at..]).unwrap();
+        assert_eq!(value, number);
+        at += taken;
+    }
+    assert_eq!(at, own.len());
 }
 
 fn check(index: u64, pair: &Comparison, open_pairs: &mut u64) {

@@ -5,7 +5,7 @@ use second::generate::book::{book, book_of_depth};
 use second::generate::damage::{damaged, damaged_twice, damages, varied};
 use second::generate::names::other_case;
 use second::generate::pairs::{pairs, Way, WAYS};
-use second::generate::plan::Book;
+use second::generate::plan::{Book, Planned};
 use second::generate::questions::{names_in, questions};
 use second::generate::write::{deep_items, good_items, wide_entries};
 use second::generate::{case, labels, outcome_of, refusal_of, Aim, Call, Case, Random};
@@ -44,15 +44,40 @@ fn listing_by_chunks(file: &[u8], record: &Record) -> Vec<Report> {
     reports
 }
 
+/// The own bytes of all entries by the cursor, and in the frames of the program, are those of the
+/// plan (FORMAT K25, P3).
+fn check_own(file: &[u8], record: &Record, book: &Book) {
+    let mut frames_of_plan = String::new();
+    let mut cursor = start(record);
+    for (listed, item) in book.listed().iter().zip(book.items()) {
+        let (place, length) = own(file, record, cursor).unwrap();
+        assert_eq!((place, length), (listed.place, listed.length));
+        assert_eq!(part(file, place, length), item.bytes());
+        let bytes = item.bytes().into_iter();
+        frames_of_plan.extend(bytes.map(|byte| format!("{byte:02x}")));
+        frames_of_plan.push('\n');
+        match step(file, record, cursor) {
+            Step::Entry(_, moved) => cursor = moved,
+            other => panic!("{other:?}"),
+        }
+    }
+    assert_eq!(own(file, record, cursor), None);
+    if file.len() <= 60_000 {
+        assert_eq!(frames(file), frames_of_plan);
+    }
+}
+
 /// Opens, lists and asks a good book, and compares with its plan.
 fn check_good(random: &mut Random, book: &Book) {
     let file = book.bytes();
     let record = open(&file).expect("a good book opens");
     assert_eq!(record, book.record());
     let reports = listing_by_chunks(&file, &record);
-    assert_eq!(reports, book.reports());
+    let planned: Vec<Report> = book.listed().iter().map(|listed| listed.report).collect();
+    assert_eq!(reports, planned);
     if reports.len() < 100 {
         assert_eq!(listing(&file, &record), reports);
+        check_own(&file, &record, book);
     }
     let items = book.items();
     assert_eq!(reports.len(), items.len());
@@ -80,6 +105,47 @@ fn check_good(random: &mut Random, book: &Book) {
             assert_eq!(scan(&file, &record, name), Reply::Found(reports[at]));
         }
     }
+}
+
+/// The numbers of a chunk that are padded, by their order in an entry and by what pads them.
+fn padded_numbers(chunk: &Planned) -> BTreeSet<(usize, &'static str)> {
+    let mut seen = BTreeSet::new();
+    for item in &chunk.items {
+        for (number, bytes) in item.numbers().iter().enumerate() {
+            let (value, taken) = read_encint(bytes).unwrap();
+            assert_eq!((value, taken), (item.value(number), bytes.len()));
+            let how = match (taken - encint(value).len(), taken) {
+                (0, _) => continue,
+                (1, _) => "by 1 byte",
+                (8, _) => "by 8 bytes",
+                (_, 9) => "to nine bytes",
+                _ => "otherwise",
+            };
+            seen.insert((number, how));
+        }
+    }
+    seen
+}
+
+/// One book in four or so is padded, in each number and by each width.
+#[test]
+fn some_books_are_padded() {
+    let random = &mut Random::new(26);
+    let (mut books, mut seen) = (0, BTreeSet::new());
+    for _ in 0..2000 {
+        let book = book(random);
+        let mut padded = false;
+        for chunk in &book.chunks {
+            let numbers = padded_numbers(chunk);
+            padded |= !numbers.is_empty();
+            let kind = chunk.is_listing();
+            seen.extend(numbers.into_iter().map(|number| (kind, number)));
+        }
+        books += u64::from(padded);
+    }
+    assert!((300..600).contains(&books), "{books}");
+    // Four numbers of listing entries and two of index entries, each padded in four ways.
+    assert_eq!(seen.len(), (4 + 2) * 4, "{seen:?}");
 }
 
 #[test]
@@ -373,7 +439,8 @@ fn damage_comes_before_the_names() {
     }
 }
 
-/// A step and the list of a whole chunk say the same, and both refuse the same.
+/// A step, the own bytes at its cursor and the list of a whole chunk say the same, and there is
+/// nothing of all where one refuses.
 #[test]
 fn steps_agree_with_whole_chunks() {
     let random = &mut Random::new(18);
@@ -383,26 +450,28 @@ fn steps_agree_with_whole_chunks() {
             Call::Step { record, cursor } => (record, cursor),
             _ => unreachable!(),
         };
-        let whole = chunk_entries(&file, &record, cursor.chunk);
+        let whole = chunk_listed(&file, &record, cursor.chunk);
+        let own = own(&file, &record, cursor);
         match step(&file, &record, cursor) {
             Step::Entry(report, moved) => {
-                let (reports, next) = whole.unwrap();
+                let (listed, next) = whole.unwrap();
                 let at = cursor.entry as usize;
-                assert_eq!(report, reports[at]);
-                let (chunk, entry) = match at + 1 == reports.len() {
+                assert_eq!(report, listed[at].report);
+                assert_eq!(own, Some((listed[at].place, listed[at].length)));
+                let (chunk, entry) = match at + 1 == listed.len() {
                     true => (next.into(), 0),
                     false => (cursor.chunk, cursor.entry + 1),
                 };
                 assert_eq!(moved, Cursor { chunk, entry });
             }
             Step::End(end) => {
-                assert_eq!(end, cursor);
+                assert_eq!((end, own), (cursor, None));
                 assert_eq!(whole, Err(Refusal::new(17)));
             }
             Step::Refused(refusal) => {
-                assert_eq!(refusal, Refusal::new(17));
+                assert_eq!((refusal, own), (Refusal::new(17), None));
                 match whole {
-                    Ok((reports, _)) => assert!(reports.len() as u64 <= cursor.entry),
+                    Ok((listed, _)) => assert!(listed.len() as u64 <= cursor.entry),
                     Err(whole) => assert_eq!(whole, refusal),
                 }
             }
@@ -558,7 +627,7 @@ fn a_run_meets_every_refusal() {
 #[test]
 fn questions_meet_every_refusal() {
     let mut numbers = BTreeMap::new();
-    for index in 0..3000 {
+    for index in 0..4000 {
         let random = &mut Random::of_case(2, index);
         let case = case(1, index);
         for call in questions(random, &case) {

@@ -36,23 +36,70 @@ fn encints_that_are_read() {
     }
 }
 
+/// So many leading 80 bytes in front of these.
+fn padded(leading: usize, bytes: &[u8]) -> Vec<u8> {
+    [&vec![0x80; leading], bytes].concat()
+}
+
+/// FORMAT N9, N4: leading 80 bytes, which are taken too.
+#[test]
+fn padded_encints_that_are_read() {
+    let examples: [(usize, &[u8], u64); 8] = [
+        (1, &[0x01], 1),
+        (1, &[0x00], 0),
+        (1, &[0x81, 0x00], 128),
+        (8, &[0x01], 1),
+        (8, &[0x00], 0),
+        (8, &[0x7F], 127),
+        (7, &[0x81, 0x00], 128),
+        (
+            1,
+            &[0xC0, 0x80, 0x80, 0x80, 0x80, 0x80, 0x80, 0x00],
+            1 << 55,
+        ),
+    ];
+    for (leading, short, value) in examples {
+        let bytes = padded(leading, short);
+        assert_eq!(read_encint(&bytes), Some((value, bytes.len())));
+        assert_eq!(encint(value), short);
+        let followed = [&bytes[..], &[0x80]].concat();
+        assert_eq!(read_encint(&followed), Some((value, bytes.len())));
+    }
+}
+
 /// FORMAT N10, N6.
 #[test]
 fn encints_that_are_refused() {
     let nine = [&[0xFF; 9][..], &[0x7F]].concat();
-    let refused: [&[u8]; 6] = [&[0x80, 0x01], &nine, &[], &[0x80], &[0x81], &[0xFF; 9]];
+    let refused: [&[u8]; 9] = [
+        &nine,
+        &[],
+        &[0x80],
+        &[0x81],
+        &[0xFF; 9],
+        &padded(9, &[0x01]),
+        &padded(8, &[0x81, 0x00]),
+        &padded(1, &[&[0xFF; 8][..], &[0x7F]].concat()),
+        &padded(9, &[]),
+    ];
     for bytes in refused {
         assert_eq!(read_encint(bytes), None);
     }
 }
 
-/// FORMAT N4: reading and writing are inverse over every length.
+/// FORMAT N3, N4: of every length, reading takes the short form and each padded one that there is
+/// room for.
 #[test]
-fn each_value_has_one_encint() {
+fn each_value_has_a_short_form() {
     for bits in 0..63 {
         for value in [1u64 << bits, (1 << bits) - 1, (1 << bits) + 1] {
-            let bytes = encint(value);
-            assert_eq!(read_encint(&bytes), Some((value, bytes.len())));
+            let short = encint(value);
+            assert!(short == [0x00] || short[0] != 0x80);
+            for leading in 0..=10 {
+                let bytes = padded(leading, &short);
+                let read = (bytes.len() <= 9).then_some((value, bytes.len()));
+                assert_eq!(read_encint(&bytes), read);
+            }
         }
     }
 }
@@ -225,6 +272,169 @@ fn sample_book_is_read() {
     assert_eq!(part(&file, 4300, 5), b"12345");
     assert_eq!(part(&file, 4300, 6), b"");
     assert_eq!(part(&file, u64::MAX, 2), b"");
+}
+
+/// The entries of the sample book with padded numbers: name length, offset and length of `/`, section
+/// and length of `/a.htm`.
+const PADDED_ENTRIES: [u8; 28] = [
+    0x80, 0x01, 0x2F, 0x00, 0x80, 0x80, 0x00, 0x80, 0x00, // `/`
+    0x06, 0x2F, 0x61, 0x2E, 0x68, 0x74, 0x6D, // `/a.htm`
+    0x80, 0x00, 0x00, 0x80, 0x80, 0x80, 0x80, 0x80, 0x80, 0x80, 0x80, 0x05,
+];
+
+/// The sample book with these entries.
+fn padded_book() -> Vec<u8> {
+    let mut file = sample_book();
+    file[224..224 + 28].copy_from_slice(&PADDED_ENTRIES);
+    file[208..212].copy_from_slice(&(4076u32 - 28).to_le_bytes()); // the tail length
+    file
+}
+
+/// FORMAT N4, K6, K25: the five numbers are the same but for the place of the name, and an entry's
+/// own bytes are those that stand there.
+#[test]
+fn padded_book_is_read() {
+    let file = padded_book();
+    let record = open(&file).unwrap();
+    let reports = [
+        Report {
+            place: 226,
+            length: 1,
+            section: 0,
+            offset: 0,
+            size: 0,
+        },
+        Report { place: 234, ..PAGE },
+    ];
+    assert_eq!(
+        chunk_entries(&file, &record, 0),
+        Ok((reports.to_vec(), NONE))
+    );
+    let trail = vec![0];
+    assert_eq!(
+        lookup(&file, &record, b"/A.HTM", 5),
+        Answer::Found {
+            report: reports[1],
+            trail
+        }
+    );
+    assert_eq!(scan(&file, &record, b"/"), Reply::Found(reports[0]));
+    let asked = lookup_opened(open(&file), &file, &record, b"/");
+    assert_eq!(asked, Expected::Exactly(Reply::Found(reports[0])));
+    let told = answers(&[[0, 0, 0, 5], [0; 4]]);
+    assert_eq!(batch(&file, b"\x06/a.htm\x01/", 64), Ok(told));
+    let lines = "80012f008080008000\n062f612e68746d800000808080808080808005\n";
+    assert_eq!(frames(&file), lines);
+}
+
+/// The own bytes at a cursor: there are some just where a step reports an entry.
+fn own_at(file: &[u8], record: &Record, chunk: u64, entry: u64) -> Option<(u64, u64)> {
+    let at = Cursor { chunk, entry };
+    let told = own(file, record, at);
+    let reported = matches!(step(file, record, at), Step::Entry(..));
+    assert_eq!(told.is_some(), reported);
+    told
+}
+
+/// FORMAT K25 on both books.
+#[test]
+fn own_bytes_at_a_cursor() {
+    let (short, file) = (sample_book(), padded_book());
+    let record = open(&short).unwrap();
+    assert_eq!(own_at(&short, &record, 0, 0), Some((224, 5)));
+    assert_eq!(own_at(&short, &record, 0, 1), Some((229, 10)));
+    assert_eq!(own_at(&file, &record, 0, 0), Some((224, 9)));
+    assert_eq!(own_at(&file, &record, 0, 1), Some((233, 19)));
+    for (chunk, entry) in [
+        (0, 2),
+        (0, 1 << 32),
+        (0, u64::MAX),
+        (1, 0),
+        (0xFFFF_FFFF, 0),
+        (0xFFFF_FFFF, u64::MAX),
+        (1 << 32, 0),
+        (u64::MAX, 0),
+    ] {
+        assert_eq!(own_at(&file, &record, chunk, entry), None);
+    }
+}
+
+/// FORMAT K25, K12, K13: a bad record and a chunk that is refused.
+#[test]
+fn own_bytes_that_are_not_given() {
+    let file = padded_book();
+    let record = open(&file).unwrap();
+    for bad in [
+        Record {
+            density: 8,
+            ..record
+        },
+        Record { depth: 0, ..record },
+        Record { count: 0, ..record },
+        Record {
+            content: 4306,
+            ..record
+        },
+    ] {
+        assert_eq!(own_at(&file, &bad, 0, 0), None);
+        assert_eq!(own_at(&file, &bad, 0xFFFF_FFFF, 0), None);
+    }
+    let mut broken = file.clone();
+    broken[204 + 4] ^= 1; // the tail length
+    assert_eq!(own_at(&broken, &record, 0, 0), None);
+    assert_eq!(own_at(&file[..4299], &record, 0, 0), None);
+}
+
+/// FORMAT C8: padding in front of an entry moves its quick word.
+#[test]
+fn padding_moves_quick_words() {
+    // At density 0 the step is 2: of three entries the last has a word.
+    let entries: [&[u8]; 3] = [
+        b"\x80\x01a\x01\x00\x00",
+        b"\x01b\x01\x80\x80\x80\x00\x00",
+        b"\x01c\x80\x01\x00\x00",
+    ];
+    let bytes = entries.concat();
+    let mut chunk = b"PMGL".to_vec();
+    for word in [4076 - bytes.len() as u32, 0, 7, NONE] {
+        chunk.extend(word.to_le_bytes());
+    }
+    chunk.extend(&bytes);
+    chunk.resize(4092, 0);
+    let place = (entries[0].len() + entries[1].len()) as u16;
+    for word in [place, 10] {
+        let chunk = [&chunk[..], &word.to_le_bytes(), &[3, 0]].concat();
+        let (file, record) = directory(0, &[chunk]);
+        let record = Record {
+            density: 0,
+            ..record
+        };
+        let last = own(&file, &record, Cursor { chunk: 0, entry: 2 });
+        assert_eq!(last, (word == place).then_some((84 + 20 + 14, 6)));
+    }
+}
+
+/// FORMAT N4, E2, Q2: an index entry with a padded name length and a padded child leads on.
+#[test]
+fn padded_children_are_followed() {
+    for (leading, answer) in [(0, true), (1, true), (8, true), (9, false)] {
+        let entry = [padded(leading, b"\x01"), b"a".to_vec()].concat();
+        let entry = [entry, padded(leading, b"\x00")].concat();
+        let mut index = b"PMGI".to_vec();
+        index.extend((4088 - entry.len() as u32).to_le_bytes());
+        index.extend(entry);
+        index.resize(4094, 0);
+        index.extend([1, 0]);
+        let (file, record) = directory(0, &[letters(NONE, b"a"), index]);
+        let tree = Record {
+            depth: 2,
+            root: 1,
+            ..record
+        };
+        let found = lookup(&file, &tree, b"A", 5).reply();
+        let there = letter(b'a', 0, 0);
+        assert_eq!(found, if answer { there } else { REFUSED });
+    }
 }
 
 /// FORMAT P1 to P6.
@@ -563,16 +773,35 @@ fn names_cut_at_every_byte() {
     }
 }
 
+/// FORMAT N4 and B2: padded lengths are good, and change no answer.
+#[test]
+fn padded_lengths() {
+    let file = sample_book();
+    let slash = answers(&[[0; 4]]);
+    for leading in 0..=8 {
+        let names = [padded(leading, b"\x01"), b"/".to_vec()].concat();
+        assert_eq!(batch(&file, &names, 32), Ok(slash.clone()));
+        assert_eq!(batch(&file, &names[..names.len() - 1], 32), SHORT);
+        let empty = batch(&file, &padded(leading, b"\x00"), 32);
+        assert_eq!(empty, Ok(answers(&[[15, 0, 0, 0]])));
+    }
+    let names = b"\x80\x80\x01/\x80\x06/A.HTM\x02/b";
+    let told = answers(&[[0; 4], [0, 0, 0, 5], [255, 0, 0, 0]]);
+    assert_eq!(batch(&file, names, 96), Ok(told));
+    assert_eq!(batch(&file, names, 95), SHORT);
+}
+
 /// FORMAT N3, N4, N6 and B2: lengths that are none, or reach too far.
 #[test]
 fn lengths_that_are_refused() {
     let file = sample_book();
     let nine = [&[0xFF; 9][..], &[0x7F]].concat();
     let most = [&[0xFF; 8][..], &[0x7F]].concat();
-    let lengths: [&[u8]; 9] = [
-        &[0x80, 0x01],
-        &[0x80, 0x80, 0x01],
-        &[0x80, 0x00],
+    let lengths: [&[u8]; 10] = [
+        &padded(9, &[0x01]),
+        &padded(20, &[0x01]),
+        &padded(8, &[0x81, 0x00]),
+        &[0x80, 0x02],
         &nine,
         &most,
         &[0x02],
@@ -627,6 +856,34 @@ fn order_of_the_checks_when_writing() {
     }
     let twice = [SAMPLE_ENTRIES, SAMPLE_ENTRIES].concat();
     assert_eq!(write(&twice, 2, 5), Refusal::new(18));
+}
+
+/// FORMAT W2: a padded number, whichever of the four and in whichever entry it is; with it in its
+/// short form the same entries are taken.
+#[test]
+fn padded_entries_are_not_written() {
+    let write = |entries: &[u8]| write_head(entries, 2, 0, 0, 5, 0).unwrap_err();
+    let numbers: [&[u8]; 4] = [&[1], &[0], &[0], &[0]];
+    let entry = |name: u8, padded_number: usize, leading: usize| {
+        let number = |at: usize| match at == padded_number {
+            true => padded(leading, numbers[at]),
+            false => numbers[at].to_vec(),
+        };
+        [number(0), vec![name], number(1), number(2), number(3)].concat()
+    };
+    for number in 0..4 {
+        for leading in 0..=9 {
+            for at in 0..5 {
+                let leading = |entry: usize| if entry == at { leading } else { 0 };
+                let entries = (0..5).map(|index| entry(b'a' + index as u8, number, leading(index)));
+                let refused = write(&entries.collect::<Vec<_>>().concat());
+                let expected = if leading(at) == 0 { 20 } else { 18 };
+                assert_eq!(refused, Refusal::new(expected));
+            }
+        }
+    }
+    assert_eq!(write(&PADDED_ENTRIES), Refusal::new(18));
+    assert_eq!(write(&PADDED_ENTRIES[9..]), Refusal::new(18));
 }
 
 /// FORMAT W10: a chunk that is full to the last byte, and one byte more.

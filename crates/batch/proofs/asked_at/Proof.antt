@@ -21,23 +21,23 @@ enum-told c = search needs
 
 returns : tie.Need-returns
 unfolding askedAt
-returns c = simp (sym (c .before .before .read .ensures) ∙ c .enum-told .given .1)
+returns c = simp (sym (c .before .before .read .ensures .0) ∙ c .enum-told .given .1)
 
 sub-if1 : tie.Need-sub-if1
-sub-if1 c = encint-next _ _ (sym (c .before .before .before .read .ensures) ∙ c .before .n .given .1) .1
+sub-if1 c = encint-next _ _ (sym (c .before .before .before .read .ensures .0) ∙ c .before .n .given .1) .1
 
 returns-2 : tie.Need-returns-2
 unfolding askedAt
 returns-2 c =
     let g = c .before .before in
-    let e = sym (g .before .before .read .ensures) ∙ g .n .given .1 in
+    let e = sym (g .before .before .read .ensures .0) ∙ g .n .given .1 in
     simp (e, lt-leb (g .n .given .0 .1 .0 + g .n .given .0 .0) (length (now (g .before .before .before .before .args .names))) (omega arith))
 
 returns-3 : tie.Need-returns-3
 unfolding askedAt
 returns-3 c =
     let g = c .before .before in
-    let e = sym (g .before .before .read .ensures) ∙ g .n .given .1 in
+    let e = sym (g .before .before .read .ensures .0) ∙ g .n .given .1 in
     let i = encint-next _ _ e in
     simp (e, le-leb (g .n .given .0 .1 .0 + g .n .given .0 .0) (length (now (g .before .before .before .before .args .names))) (omega arith))
 

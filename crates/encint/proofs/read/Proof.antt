@@ -2,12 +2,13 @@
 use mathlib.Core.Path.{sym, _∙_}
 use native.Mathlib.Omega.{arith}
 use borrow.Author.Needs.{needs}
-use Rattle.encint.proofs.Reading.{at-past, at-one, at-refused, at-number}
+use Rattle.encint.proofs.Reading.{at-past, at-one, at-number}
+use Rattle.encint.proofs.Padded.{answer-exact}
 use Rattle.encint.proofs.read.Statement.{statement}
 use Rattle.encint.proofs.read.Tie as tie
 
 returns : tie.Need-returns
-returns c = sym (at-past _ _ (c .if1 .taken))
+returns c = answer-exact _ _ (λ j. c .before .shared-slice-known .given j .fits) _ (sym (at-past _ _ (c .if1 .taken)))
 
 shared-slice-read-b : tie.Need-shared-slice-read-b
 shared-slice-read-b c = search needs
@@ -19,16 +20,13 @@ add-t9 : tie.Need-add-t9
 add-t9 c = search needs
 
 returns-2 : tie.Need-returns-2
-returns-2 c = sym (at-one _ _ (omega arith) (omega arith))
-
-returns-3 : tie.Need-returns-3
-returns-3 c = sym (at-refused _ _ (omega arith) (omega arith))
+returns-2 c = answer-exact _ _ (λ j. c .before .before .before .shared-slice-known .given j .fits) _ (sym (at-one _ _ (omega arith) (omega arith)))
 
 groups-at-requires : tie.Need-groups-at-requires
 groups-at-requires c κs = search needs
 
-returns-4 : tie.Need-returns-4
-returns-4 c = c .groups-at .ensures ∙ sym (at-number _ _ (omega arith) (λ e. omega arith))
+returns-3 : tie.Need-returns-3
+returns-3 c = answer-exact _ _ (λ j. c .before .before .before .before .shared-slice-known .given j .fits) _ (c .groups-at .ensures ∙ sym (at-number _ _))
 
 pub read-spec : {M : Type 1} → statement M
 read-spec =
@@ -39,6 +37,5 @@ read-spec =
     cast-t8
     add-t9
     returns-2
-    returns-3
     groups-at-requires
-    returns-4)
+    returns-3)

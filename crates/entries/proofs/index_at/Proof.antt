@@ -23,7 +23,7 @@ name-is c = sym (c .before .before .name-at .ensures) ∙ c .n .given .1
 
 child-is : (c : tie.After-child) → let d = c .before .before .before .before in
     encintAt (now (d .before .before .before .before .args .c)) (d .n .given .0 .1 .0 + d .n .given .0 .0) ≡ Value (c .child .given .0 .0) (c .child .given .0 .1 .0)
-child-is c = sym (c .before .before .read .ensures) ∙ c .child .given .1
+child-is c = sym (c .before .before .read .ensures .0) ∙ c .child .given .1
 
 name-at-requires : tie.Need-name-at-requires
 name-at-requires c κs = search needs
@@ -54,7 +54,7 @@ enum-told-2 c = search needs
 
 returns-2 : tie.Need-returns-2
 unfolding indexAt
-returns-2 c = simp (name-is (c .before .before .before .before), sym (c .before .before .read .ensures) ∙ c .enum-told2 .given .1)
+returns-2 c = simp (name-is (c .before .before .before .before), sym (c .before .before .read .ensures .0) ∙ c .enum-told2 .given .1)
 
 returns-3 : tie.Need-returns-3
 unfolding indexAt

@@ -27,15 +27,15 @@ name-is c = sym (c .before .before .name-at .ensures) ∙ c .n .given .1
 
 section-is : (c : tie.After-section) → let d = c .before .before .before .before in
     encintAt (now (d .before .before .before .before .args .c)) (d .n .given .0 .1 .0 + d .n .given .0 .0) ≡ Value (c .section .given .0 .0) (c .section .given .0 .1 .0)
-section-is c = sym (c .before .before .read .ensures) ∙ c .section .given .1
+section-is c = sym (c .before .before .read .ensures .0) ∙ c .section .given .1
 
 offset-is : (c : tie.After-offset) → let d = c .before .before .before .before in
     encintAt (now (d .before .before .before .before .before .before .before .before .args .c)) (d .section .given .0 .1 .0) ≡ Value (c .offset .given .0 .0) (c .offset .given .0 .1 .0)
-offset-is c = sym (c .before .before .read2 .ensures) ∙ c .offset .given .1
+offset-is c = sym (c .before .before .read2 .ensures .0) ∙ c .offset .given .1
 
 size-is : (c : tie.After-size) → let d = c .before .before .before .before in
     encintAt (now (d .before .before .before .before .before .before .before .before .before .before .before .before .args .c)) (d .offset .given .0 .1 .0) ≡ Value (c .size .given .0 .0) (c .size .given .0 .1 .0)
-size-is c = sym (c .before .before .read3 .ensures) ∙ c .size .given .1
+size-is c = sym (c .before .before .read3 .ensures .0) ∙ c .size .given .1
 
 -- with all five numbers read, the two tests are left
 read-all : (c : tie.After-size) → let o = c .before .before .before .before in let e = o .before .before .before .before in let n = e .before .before .before .before in let a = n .before .before .before .before .args in
@@ -75,7 +75,7 @@ enum-told-2 c = search needs
 
 returns-2 : tie.Need-returns-2
 unfolding listingAt
-returns-2 c = simp (name-is (c .before .before .before .before), sym (c .before .before .read .ensures) ∙ c .enum-told2 .given .1)
+returns-2 c = simp (name-is (c .before .before .before .before), sym (c .before .before .read .ensures .0) ∙ c .enum-told2 .given .1)
 
 read-requires-2 : tie.Need-read-requires-2
 read-requires-2 c κs = search needs
@@ -88,7 +88,7 @@ enum-told-3 c = search needs
 
 returns-3 : tie.Need-returns-3
 unfolding listingAt
-returns-3 c = simp (name-is (c .before .before .before .before .before .before .before .before), section-is (c .before .before .before .before), sym (c .before .before .read2 .ensures) ∙ c .enum-told3 .given .1)
+returns-3 c = simp (name-is (c .before .before .before .before .before .before .before .before), section-is (c .before .before .before .before), sym (c .before .before .read2 .ensures .0) ∙ c .enum-told3 .given .1)
 
 read-requires-3 : tie.Need-read-requires-3
 read-requires-3 c κs = search needs
@@ -101,7 +101,7 @@ enum-told-4 c = search needs
 
 returns-4 : tie.Need-returns-4
 unfolding listingAt
-returns-4 c = simp (name-is (c .before .before .before .before .before .before .before .before .before .before .before .before), section-is (c .before .before .before .before .before .before .before .before), offset-is (c .before .before .before .before), sym (c .before .before .read3 .ensures) ∙ c .enum-told4 .given .1)
+returns-4 c = simp (name-is (c .before .before .before .before .before .before .before .before .before .before .before .before), section-is (c .before .before .before .before .before .before .before .before), offset-is (c .before .before .before .before), sym (c .before .before .read3 .ensures .0) ∙ c .enum-told4 .given .1)
 
 returns-5 : tie.Need-returns-5
 returns-5 c = simp (read-all (c .before .before), lt-leb _ _ (c .if1 .taken))

@@ -25,23 +25,23 @@ enum-told c = search needs
 
 returns : tie.Need-returns
 unfolding nameAt
-returns c = simp (sym (c .before .before .read .ensures) ∙ c .enum-told .given .1)
+returns c = simp (sym (c .before .before .read .ensures .0) ∙ c .enum-told .given .1)
 
 returns-2 : tie.Need-returns-2
 unfolding nameAt
 returns-2 c =
-    let e = sym (c .before .before .before .before .read .ensures) ∙ c .before .before .n .given .1 in
+    let e = sym (c .before .before .before .before .read .ensures .0) ∙ c .before .before .n .given .1 in
     simp (e, le-ltb 0 (c .before .before .n .given .0 .0) (omega arith))
 
 returns-3 : tie.Need-returns-3
 unfolding nameAt
 returns-3 c =
-    let e = sym (c .before .before .before .before .before .read .ensures) ∙ c .before .before .before .n .given .1 in
+    let e = sym (c .before .before .before .before .before .read .ensures .0) ∙ c .before .before .before .n .given .1 in
     simp (e, lt-ltb 0 (c .before .before .before .n .given .0 .0) (omega arith), lt-leb _ _ (c .if2 .taken))
 
 sub-if3 : tie.Need-sub-if3
 sub-if3 c =
-    encint-next _ _ (sym (c .before .before .before .before .before .read .ensures) ∙ c .before .before .before .n .given .1) .1
+    encint-next _ _ (sym (c .before .before .before .before .before .read .ensures .0) ∙ c .before .before .before .n .given .1) .1
 
 returns-4 : tie.Need-returns-4
 unfolding nameAt
@@ -49,7 +49,7 @@ returns-4 c =
     let g = c .before .before .before .before in
     let n = g .n .given .0 .0 in
     let p = g .n .given .0 .1 .0 in
-    let e = sym (g .before .before .read .ensures) ∙ g .n .given .1 in
+    let e = sym (g .before .before .read .ensures .0) ∙ g .n .given .1 in
     simp (e, lt-ltb 0 n (omega arith), le-leb n 1024 (omega arith), lt-leb (p + n) (length (now (g .before .before .before .before .args .c))) (omega arith))
 
 returns-5 : tie.Need-returns-5
@@ -58,7 +58,7 @@ returns-5 c =
     let g = c .before .before .before .before in
     let n = g .n .given .0 .0 in
     let p = g .n .given .0 .1 .0 in
-    let e = sym (g .before .before .read .ensures) ∙ g .n .given .1 in
+    let e = sym (g .before .before .read .ensures .0) ∙ g .n .given .1 in
     let i = encint-next _ _ e in
     simp (e, lt-ltb 0 n (omega arith), le-leb n 1024 (omega arith), le-leb (p + n) (length (now (g .before .before .before .before .args .c))) (omega arith))
 

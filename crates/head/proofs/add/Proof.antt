@@ -1,26 +1,18 @@
 -- `head::add` meets its contract. Assumes nothing.
-use mathlib.Core.Path.{_≡_, refl, sym, _∙_}
+use mathlib.Core.Path.{refl, sym}
 use mathlib.Core.Bool.{true}
 use native.Mathlib.Omega.{arith}
 use lib.Seq.{set-out}
-use Rattle.pack.specs.Fill.{rowSize}
-use Rattle.pack.proofs.Sizes.{row-short, size-row}
+use Rattle.pack.proofs.Sizes.{row-short}
 use Rattle.head.proofs.Listings.{added-here, added-next}
 use borrow.Author.Needs.{needs}
 use Rattle.head.proofs.add.Statement.{statement}
 use Rattle.head.proofs.add.Tie as tie
 
--- the entry's size
-sized : (c : tie.After-entry-size) → c .entry-size .result ≡ rowSize true (c .before .before .args .e)
-sized c = c .entry-size .ensures ∙ size-row _ _ (c .before .before .pre .short)
-
-entry-size-requires : tie.Need-entry-size-requires
-entry-size-requires c κs = search needs
-
 add-bytes : tie.Need-add-bytes
 add-bytes c =
-    let a = c .before .before .before in
-    omega (arith, sized (c .before), row-short true (a .args .e) (a .pre .short), a .pre .small)
+    let a = c .before .before in
+    omega (arith, a .pre .sized, row-short true (a .args .e) (a .pre .short), a .pre .small)
 
 fits-requires : tie.Need-fits-requires
 fits-requires c κs = search needs
@@ -29,14 +21,14 @@ add-t10 : tie.Need-add-t10
 add-t10 c = search needs
 
 returns : tie.Need-returns
-returns c = added-here _ _ _ _ _ (sized (c .before .before .before .before)) _ (c .before .before .fits2 .ensures) (c .before .if1 .taken)
+returns c = added-here _ _ _ _ _ (c .before .before .before .before .before .pre .sized) _ (c .before .before .fits2 .ensures) (c .before .if1 .taken)
 
 add-if2 : tie.Need-add-if2
 add-if2 c = search needs
 
 returns-2 : tie.Need-returns-2
 returns-2 c =
-    added-next _ _ _ _ _ (sized (c .before .before .before .before)) _ (c .before .before .fits2 .ensures) (c .before .if1 .left) _ (sym (set-out _ _ _ (c .if2 .taken)))
+    added-next _ _ _ _ _ (c .before .before .before .before .before .pre .sized) _ (c .before .before .fits2 .ensures) (c .before .if1 .left) _ (sym (set-out _ _ _ (c .if2 .taken)))
 
 mul-starts : tie.Need-mul-starts
 mul-starts c = search needs
@@ -48,13 +40,12 @@ same-length : tie.Need-same-length
 same-length c = search needs
 
 returns-3 : tie.Need-returns-3
-returns-3 c = added-next _ _ _ _ _ (sized (c .before .before .before .before)) _ (c .before .before .fits2 .ensures) (c .before .if1 .left) _ refl
+returns-3 c = added-next _ _ _ _ _ (c .before .before .before .before .before .pre .sized) _ (c .before .before .fits2 .ensures) (c .before .if1 .left) _ refl
 
 pub add-spec : {M : Type 1} → statement M
 add-spec =
     tie.close
     (tie.spec
-    entry-size-requires
     add-bytes
     fits-requires
     add-t10

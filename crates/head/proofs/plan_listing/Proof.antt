@@ -1,13 +1,17 @@
 -- `head::plan_listing` meets its contract. Assumes nothing.
 use mathlib.Core.Path.{_≡_, sym, _∙_}
+use mathlib.Core.Bool.{true}
 use mathlib.Core.List.{[]}
+use Prim.Native.Nat.{_<_}
 use native.Mathlib.Omega.{arith}
 use denote.Ref.{now}
 use Rattle.fields.proofs.Tests.{held, failed}
 use Rattle.entries.specs.Entry.{listingAt}
 use Rattle.source.proofs.Rows.{Stepped, taken-entry, run-end, given-row}
 use Rattle.source.proofs.Inputs.{ahead, passes-empty}
-use Rattle.head.proofs.Listings.{Reading, reading-start, reading-end, reading-short, reading-falls, reading-next, reading-turn}
+use Rattle.pack.specs.Fill.{rowSize}
+use Rattle.pack.proofs.Sizes.{size-row}
+use Rattle.head.proofs.Listings.{Reading, reading-start, reading-end, reading-short, reading-padded, reading-falls, reading-next, reading-turn}
 use borrow.Author.Needs.{needs}
 use Rattle.head.proofs.plan_listing.Statement.{statement}
 use Rattle.head.proofs.plan_listing.Tie as tie
@@ -59,37 +63,63 @@ returns-3 c =
     let t = c .before in
     reading-short _ _ _ _ _ _ _ _ _ _ (t .before .before .before .loop .inv) (end-is t) (c .if2 .left)
 
-rises-requires : tie.Need-rises-requires Inv-loop μ-loop
-rises-requires c κs =
-    let l = c .before .before .before .before .loop in
-    (l .inv .named, given-row _ _ _ _ (read-is (c .before) .item) .row .inside)
+entry-size-requires : tie.Need-entry-size-requires Inv-loop μ-loop
+entry-size-requires c κs = search needs
+
+-- the size of what is written for the entry
+sized : (c : tie.After-entry-size Inv-loop μ-loop) → c .entry-size .result ≡ rowSize true (c .before .before .e .given .0 .0)
+sized c = c .entry-size .ensures ∙ size-row _ _ (given-row _ _ _ _ (read-is (c .before .before) .item) .row .short)
+
+sub-if3 : tie.Need-sub-if3 Inv-loop μ-loop
+sub-if3 c = omega (arith, given-row _ _ _ _ (read-is (c .before .before .before) .item) .moves)
 
 same-length-3 : tie.Need-same-length-3 Inv-loop μ-loop
-same-length-3 c = c .before .before .before .before .before .before .loop .inv .kept
+same-length-3 c = c .before .before .before .before .before .before .before .loop .inv .kept
 
 returns-4 : tie.Need-returns-4 Inv-loop μ-loop
 returns-4 c =
-    let e = c .before .before .before in
-    reading-falls _ _ _ _ _ _ _ _ _ _ (e .before .before .before .loop .inv) _ (read-is e .some) (read-is e .item) (failed (c .before .rises .ensures) (c .if3 .taken))
+    let z = c .before .before in
+    let e = z .before .before in
+    reading-padded _ _ _ _ _ _ _ _ _ _ (e .before .before .before .loop .inv) _ (read-is e .some) (read-is e .item) _ (sized z) (c .if3 .taken)
+
+rises-requires : tie.Need-rises-requires Inv-loop μ-loop
+rises-requires c κs =
+    let e = c .before .before .before .before in
+    (e .before .before .before .loop .inv .named, given-row _ _ _ _ (read-is e .item) .row .inside)
+
+same-length-4 : tie.Need-same-length-4 Inv-loop μ-loop
+same-length-4 c = c .before .before .before .before .before .before .before .before .before .loop .inv .kept
+
+returns-5 : tie.Need-returns-5 Inv-loop μ-loop
+returns-5 c =
+    let e = c .before .before .before .before .before .before in
+    reading-falls _ _ _ _ _ _ _ _ _ _ (e .before .before .before .loop .inv) _ (read-is e .some) (read-is e .item) (failed (c .before .rises .ensures) (c .if4 .taken))
 
 add-requires : tie.Need-add-requires Inv-loop μ-loop
 add-requires c κs =
-    let e = c .before .before .before .before in
-    reading-next _ _ _ _ _ _ _ _ _ _ (e .before .before .before .loop .inv) _ (read-is e .some) (read-is e .item) (omega arith)
+    let z = c .before .before .before .before .before in
+    let e = z .before .before in
+    reading-next _ _ _ _ _ _ _ _ _ _ (e .before .before .before .loop .inv) _ (read-is e .some) (read-is e .item) (omega arith) _ (sized z)
+
+-- behind the entry that was added
+some-left : (c : tie.After-slice-known2 Inv-loop μ-loop) → 0 < c .before .before .before .before .before .before .before .before .before .before .before .before .before .loop .left
+some-left c = read-is (c .before .before .before .before .before .before .before .before .before .before) .some
 
 sub-left : tie.Need-sub-left Inv-loop μ-loop
-sub-left c = omega (arith, read-is (c .before .before .before .before .before .before .before) .some)
+sub-left c = omega (arith, some-left c)
 
 loop-less : tie.Need-loop-less Inv-loop μ-loop
-loop-less c = omega (arith, read-is (c .before .before .before .before .before .before .before) .some)
+loop-less c = omega (arith, some-left c)
 
 loop-again : tie.Need-loop-again Inv-loop μ-loop
 loop-again c =
     let d = c .before .before in
     let r = d .before .before in
-    let e = r .before .before .before in
+    let t = r .before .before in
+    let z = t .before .before in
+    let e = z .before .before in
     let i = read-is e in
-    reading-turn _ _ _ _ _ _ _ _ _ _ (e .before .before .before .loop .inv) _ (i .some) (i .item) (held (r .before .rises .ensures) (r .if3 .left)) _ _ (d .add .ensures .0) (d .add .ensures .1)
+    reading-turn _ _ _ _ _ _ _ _ _ _ (e .before .before .before .loop .inv) _ (i .some) (i .item) _ (sized z) (t .if3 .left) (held (r .before .rises .ensures) (r .if4 .left)) _ _ (d .add .ensures .0) (d .add .ensures .1)
 
 pub plan-listing-spec : {M : Type 1} → statement M
 plan-listing-spec =
@@ -106,9 +136,13 @@ plan-listing-spec =
     returns-2
     same-length-2
     returns-3
-    rises-requires
+    entry-size-requires
+    sub-if3
     same-length-3
     returns-4
+    rises-requires
+    same-length-4
+    returns-5
     add-requires
     sub-left
     loop-less

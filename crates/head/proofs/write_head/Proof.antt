@@ -121,7 +121,7 @@ returns-5 c =
     let t = taken (c .before .before .before .before .before .before .before) in
     let w = made (c .before .before .before .before .before .before .before) in
     let a = c .before .before .before .before .before .before .before .before .before .before .before .before .before .before .before .before .before .args in
-    answer-head (now (a .entries)) (a .density) (a .time) (a .language) (a .content-length) (now (a .out)) t (made-small _ _ _ _ _ _ w) _ (w .counted) (c .before .before .before .before .before .before .before .before .before .before .before .before .before .before .before .before .before .fits .time .fits) (c .before .before .before .before .before .before .before .before .before .before .before .before .before .before .before .before .before .fits .language .fits) _ (c .before .before .before .before .before .if2 .left)
+    answer-head (now (a .entries)) (a .density) (a .time) (a .language) (a .content-length) (now (a .out)) t (made-small _ _ _ _ _ _ w) _ (w .counted) (λ j. c .before .before .before .before .before .before .before .before .before .before .before .before .before .before .before .before .shared-slice-known .given j .fits) (c .before .before .before .before .before .before .before .before .before .before .before .before .before .before .before .before .before .fits .time .fits) (c .before .before .before .before .before .before .before .before .before .before .before .before .before .before .before .before .before .fits .language .fits) _ (c .before .before .before .before .before .if2 .left)
     (length-head (a .density) (a .time) (a .language) (a .content-length) _ (list-whole _ _ _ _ (takes-told (a .density) (a .content-length) (now (a .entries)) t)) ∙ ap headLength (sym (w .counted)))
     (rw (spaced (c .before .before .before .before .before .before .before .before .before .before .before .before)) at (c .before .before .put-head .ensures))
 

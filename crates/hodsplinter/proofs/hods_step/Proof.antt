@@ -3,11 +3,8 @@ use mathlib.Core.Path.{_≡_, refl, sym, ap, _∙_}
 use Rattle.hodsplinter.proofs.hods_step.Statement.{statement}
 use Rattle.hodsplinter.proofs.hods_step.Tie as tie
 
-element-copy-out-t11 : tie.Need-element-copy-out-t11
-element-copy-out-t11 c = search needs
-
-element-copy-out-t14 : tie.Need-element-copy-out-t14
-element-copy-out-t14 c = search needs
+cursor-in-requires : tie.Need-cursor-in-requires
+cursor-in-requires c κs = search needs
 
 record-in-requires : tie.Need-record-in-requires
 record-in-requires c κs = search needs
@@ -30,27 +27,26 @@ code-requires c κs = search needs
 returns : tie.Need-returns
 returns c =
     let k = c .before .before .before .before .before in
-    let z = rw (k .before .record-in .ensures) at (sym (k .step .ensures) ∙ c .before .before .before .x .given .1) in
+    let z = rw (k .before .record-in .ensures, k .before .before .cursor-in .ensures) at (sym (k .step .ensures) ∙ c .before .before .before .x .given .1) in
     (rw z, (rw z, rw z))
 
 returns-2 : tie.Need-returns-2
 returns-2 c =
     let k = c .before .before in
-    let z = rw (k .before .record-in .ensures) at (sym (k .step .ensures) ∙ c .enum-told .given .1) in
+    let z = rw (k .before .record-in .ensures, k .before .before .cursor-in .ensures) at (sym (k .step .ensures) ∙ c .enum-told .given .1) in
     (rw z, (rw z, rw z))
 
 returns-3 : tie.Need-returns-3
 returns-3 c =
     let k = c .before .before .before .before in
-    let z = rw (k .before .record-in .ensures) at (sym (k .step .ensures) ∙ c .before .before .r .given .1) in
+    let z = rw (k .before .record-in .ensures, k .before .before .cursor-in .ensures) at (sym (k .step .ensures) ∙ c .before .before .r .given .1) in
     (rw z (c .code .ensures), (rw z, rw z))
 
 pub hods-step-spec : {M : Type 1} → statement M
 hods-step-spec =
     tie.close
     (tie.spec
-    element-copy-out-t11
-    element-copy-out-t14
+    cursor-in-requires
     record-in-requires
     step-requires
     enum-known-x

@@ -47,7 +47,7 @@ compared-is c = simp add-sub-cancel-left at (c .compare .ensures)
 number-is : (c : tie.After-child Inv-loop μ-loop) → let n = c .before .before .before .before .before .before .before .before in
     let a = n .before .before .before .before .before .before .before .before .args in
     encintAt (now (a .c)) (n .n .given .0 .1 .0 + n .n .given .0 .0) ≡ Value (c .child .given .0 .0) (c .child .given .0 .1 .0)
-number-is c = sym (c .before .before .read .ensures) ∙ c .child .given .1
+number-is c = sym (c .before .before .read .ensures .0) ∙ c .child .given .1
 
 -- the entry
 read-is : (c : tie.Else1 Inv-loop μ-loop) → let d = c .before .before .before in let n = d .before .before .before .before .before .before .before .before in
@@ -157,7 +157,7 @@ returns-4 c =
     let i = l .loop .inv in
     i .1 .0
     ∙ ap childOf (sym (choose-bad (a .limits) (now (a .c)) (now (a .name)) (i .0) (l .loop .left) (l .loop .at) (t .loop-test .taken)
-    (index-broken (a .limits) (now (a .c)) (l .loop .at) _ _ (name-is n) (sym (c .before .before .read .ensures) ∙ c .enum-told5 .given .1))) ∙ i .1 .1)
+    (index-broken (a .limits) (now (a .c)) (l .loop .at) _ _ (name-is n) (sym (c .before .before .read .ensures .0) ∙ c .enum-told5 .given .1))) ∙ i .1 .1)
 
 returns-5 : tie.Need-returns-5 Inv-loop μ-loop
 returns-5 c =

@@ -24,7 +24,7 @@ impl<'a> Bytes<'a> {
         Some(bytes.iter().rev().fold(0, |n, b| n << 8 | u64::from(*b)))
     }
 
-    /// An ENCINT and the place behind it, or why there is none.
+    /// An ENCINT, padded or not, and the place behind it, or why there is none.
     pub fn encint(self, place: u64) -> Result<(u64, u64), Fault> {
         let bytes = self.0.get(place as usize..).unwrap_or(&[]);
         let size = bytes.iter().take_while(|b| **b & 0x80 != 0).count() + 1;
@@ -32,14 +32,11 @@ impl<'a> Bytes<'a> {
             let shown = spaced_hex(&bytes[..bytes.len().min(10)]);
             Err((row, format!("{shown} is no ENCINT: {why}")))
         };
-        if bytes.first() == Some(&0x80) {
-            return fault("E3, N4", "its first byte is 80");
-        }
         if size > 9 {
             return fault("E3, N3", "it has more than nine bytes");
         }
         if size > bytes.len() {
-            return fault("E3, N6", "the chunk ends in it");
+            return fault("E3, N6", "its last byte is missing");
         }
         let value = bytes[..size]
             .iter()

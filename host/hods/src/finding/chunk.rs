@@ -69,6 +69,11 @@ impl<'a> Chunk<'a> {
         }
     }
 
+    /// Where the tail starts.
+    fn end(&self) -> u64 {
+        CHUNK - self.tail.min(CHUNK)
+    }
+
     fn at(&self, row: &'static str, offset: u64, found: String) -> Finding {
         Finding::new(row, self.place + offset, found)
     }
@@ -94,7 +99,7 @@ impl<'a> Chunk<'a> {
     /// The entries, or the first rule that one of them breaks.
     pub fn items(&self, directory: &Directory) -> Result<Vec<Item<'a>>, Finding> {
         let (mut at, mut items) = (self.header(), Vec::new());
-        let (count, tail) = (self.count, CHUNK - self.tail.min(CHUNK));
+        let (count, tail) = (self.count, self.end());
         for i in 0..count {
             let start = self.place + at;
             if at >= tail {
@@ -142,8 +147,10 @@ impl<'a> Chunk<'a> {
         Ok((item, end))
     }
 
+    /// A number that starts in front of the tail must end there. Of one that starts in the tail, C3 tells when the entries are read.
     fn number(&self, what: &str, at: u64) -> Read<(u64, u64)> {
-        let read = self.bytes.encint(at);
+        let end = if at < self.end() { self.end() } else { CHUNK };
+        let read = Bytes(&self.bytes.0[..end as usize]).encint(at);
         read.map_err(|(row, found)| (at, (row, format!("{what}: {found}"))))
     }
 

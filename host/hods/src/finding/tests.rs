@@ -87,13 +87,14 @@ fn damage_of_headers() {
 fn damage_of_chunks() {
     let (a, index) = (chunk(7), chunk(5));
     let tail = 0x04;
-    let cases: [(usize, &[u8], u8, &str, usize); 13] = [
+    let cases: [(usize, &[u8], u8, &str, usize); 14] = [
         (a, b"PMGX", 8, "C1, C2", a),
         (a + 4094, b"\0\0", 9, "C4", a + 4094),
         (a + tail, b"\x02\0", 9, "C9", a + tail),
         (a + tail, b"\0\x10", 9, "C10", a + tail),
         (a + 20, b"\0", 10, "E4", a + 20),
-        (a + 20, b"\x80", 10, "E3, N4", a + 20),
+        (a + 20, &[0x80; 9], 10, "E3, N3", a + 20),
+        (a + 3990, b"\x80", 10, "E3, N6", a + 3989),
         (a + 22, b"\x84\x80\0", 10, "E5", a + 22),
         (a + 24, b"\x7f", 10, "E6", a + 23),
         (a + 4094, b"\x01\0", 10, "C3", 0),

@@ -1,6 +1,6 @@
 //! `hods check`.
 
-use crate::run::{command, fed, hods, sample, Folder};
+use crate::run::{book_of, command, fed, hods, sample, Folder};
 
 const SAMPLE: &str =
     "sample.chm: good: version 3, 2 entries, 1 chunk, depth 1, 5 bytes of content\n";
@@ -46,6 +46,33 @@ fn no_books() {
         .bad(1, &["hods: \\x1b[2Jbook: refusal 1"]);
     // Endless input is refused by its first bytes.
     hods(&["check", "/dev/zero"]).bad(1, &["R2, F1", "00 00 00 00"]);
+}
+
+/// Bytes 80 in front of a number count among its nine; a number that goes on into the tail is none.
+#[test]
+fn numbers_that_are_none() {
+    let folder = Folder::new("check-numbers");
+    let told = |entry: &[&[u8]], row: &str, place: u64, found: &str| {
+        folder.put("book", &book_of(entry));
+        let at = format!("in chunk 0 at 0x{place:x}: entry 0, at 0xe0");
+        let message = format!("hods: book: refusal 10 (FORMAT R10, E3, {row}) {at}: {found}\n");
+        folder.hods(&["check", "book"]).bad(1, &[&message]);
+    };
+    let good: [&[u8]; 5] = [b"\x01", b"/", b"\0", b"\0", b"\0"];
+    for (k, what) in [
+        (0, "name length"),
+        (2, "section"),
+        (3, "offset"),
+        (4, "length"),
+    ] {
+        let mut fields = good;
+        fields[k] = b"\x80\x80\x80\x80\x80\x80\x80\x80\x80\x01";
+        let nine = "80 80 80 80 80 80 80 80 80 01 is no ENCINT: it has more than nine bytes";
+        let found = format!("{what}: {nine}");
+        told(&[&fields.concat()], "N3", 0xE0 + k as u64, &found);
+    }
+    let found = "length: 80 is no ENCINT: its last byte is missing";
+    told(&[b"\x01/\0\0\x80"], "N6", 0xE4, found);
 }
 
 /// Where a chunk of `several.chm` starts.

@@ -3,7 +3,7 @@
 use std::fs;
 use std::os::unix::fs::symlink;
 
-use crate::run::{command, fed, hods, sample, Folder, Ran, FROM_LIST};
+use crate::run::{book_of, command, fed, hods, sample, Folder, Ran, FROM_LIST};
 
 const OLD: &str = "0 0 0 /\n0 0 5 /a.htm\n1 3 4 /c\n7 8 9 /Moved\n1 1 1 /same\n0 0 1 <b>\\xff&\n";
 const NEW: &str = "0 0 0 /\n0 0 4 /A.htm\n1 7 9 /b\n6 7 8 /Moved\n1 1 1 /SAME\n";
@@ -72,6 +72,21 @@ fn no_difference() {
         hods(&["compare", "-q", "sample.chm", "sample.chm"]).good(),
         ""
     );
+}
+
+/// A padded number differs in nothing from its short form.
+#[test]
+fn padded_numbers() {
+    let folder = Folder::new("compare-padded");
+    folder.put("short", &sample("sample.chm"));
+    let first = b"\x80\x80\x01/\0\x80\0\0";
+    folder.put("padded", &book_of(&[first, b"\x06/a.htm\0\0\x80\x05"]));
+    let run = folder.hods(&["compare", "short", "padded"]);
+    assert_eq!(run.good(), "no difference: 2 entries are the same\n");
+    folder.put("moved", &book_of(&[first, b"\x06/a.htm\0\x80\x01\x04"]));
+    let run = folder.hods(&["compare", "padded", "moved"]);
+    let change = "~ /a.htm: offset 0 -> 1, length 5 -> 4\n";
+    assert!(differ(&run).starts_with(change), "{}", run.out());
 }
 
 #[test]

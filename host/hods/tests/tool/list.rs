@@ -1,6 +1,6 @@
 //! `hods list`.
 
-use crate::run::{command, fed, hods, sample, Folder, FROM_LIST};
+use crate::run::{book_of, command, fed, hods, sample, Folder, FROM_LIST};
 
 #[test]
 fn columns() {
@@ -49,6 +49,32 @@ fn frames() {
         .bad(1, &["refusal 8", "chunk 4"]);
     folder.hods(&["list", "--json", "book"]).bad(1, &["R8"]);
     folder.hods(&["list", "--frames", "gone"]).bad(2, &["gone"]);
+}
+
+/// A padded number is the number that it is; only the frames have its leading bytes 80.
+#[test]
+fn padded_numbers() {
+    let folder = Folder::new("list-padded");
+    let entries: [&[u8]; 3] = [
+        b"\x80\x80\x01/\0\x80\0\0",
+        b"\x02/a\0\x02\x03",
+        b"\x02/b\x80\x07\x09\x80\x80\x80\x80\x80\x80\x80\x80\x08",
+    ];
+    folder.put("padded", &book_of(&entries));
+    folder.hods(&["check", "padded"]).good();
+    let lines = folder.hods(&["list", "padded"]);
+    assert_eq!(lines.good(), "0 0 0 /\n0 2 3 /a\n7 9 8 /b\n");
+    assert_eq!(
+        folder.hods(&["list", "--frames", "padded"]).good(),
+        "8080012f00800000\n022f61000203\n022f62800709808080808080808008\n"
+    );
+    folder.put("list", &lines.bytes);
+    folder.put("content", b"hello");
+    folder.hods(&FROM_LIST).good();
+    assert_eq!(
+        folder.hods(&["list", "--frames", "book"]).good(),
+        "012f000000\n022f61000203\n022f62070908\n"
+    );
 }
 
 #[test]

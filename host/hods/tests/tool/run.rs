@@ -31,6 +31,18 @@ pub fn sample(name: &str) -> Vec<u8> {
     fs::read(samples().join(name)).unwrap()
 }
 
+/// The sample book with these bytes as its entries, too few of them for a quick word.
+pub fn book_of(entries: &[&[u8]]) -> Vec<u8> {
+    let (mut book, body) = (sample("sample.chm"), entries.concat());
+    let chunk = &mut book[204..4300];
+    let tail = 4096 - 20 - body.len() as u32;
+    chunk[4..8].copy_from_slice(&tail.to_le_bytes());
+    chunk[20..4094].fill(0);
+    chunk[20..20 + body.len()].copy_from_slice(&body);
+    chunk[4094..].copy_from_slice(&(entries.len() as u16).to_le_bytes());
+    book
+}
+
 /// How a run ended.
 #[derive(Debug)]
 pub struct Ran {

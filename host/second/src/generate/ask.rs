@@ -7,7 +7,7 @@ mod opened;
 mod scan;
 mod step;
 
-pub use batch::{batch_case, break_names, joined};
+pub use batch::{batch_case, break_names, joined, joined_padded};
 pub use lookup::{lookup_case, unaskable};
 pub use opened::opened_case;
 pub use scan::scan_case;

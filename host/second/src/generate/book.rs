@@ -1,10 +1,10 @@
 //! Good books.
 
 use super::names::rising_names;
-use super::plan::{Book, Item, Planned};
+use super::padding::Padding;
+use super::plan::{Book, Item, Planned, LENGTH, NAME_LENGTH, OFFSET, SECTION};
 use super::Random;
 use crate::chunk::{quick_step, quick_words, CHUNK, INDEX_HEADER, LISTING_HEADER};
-use crate::number::encint;
 use crate::NONE;
 use std::iter::Peekable;
 
@@ -14,20 +14,47 @@ pub fn book(random: &mut Random) -> Book {
     book_of_depth(random, depth)
 }
 
+/// What all chunks of a book have in common.
+struct Common {
+    density: u32,
+    content_length: u64,
+    padding: Padding,
+}
+
+impl Common {
+    fn some(random: &mut Random) -> Common {
+        let content_length = match random.below(4) {
+            0 => random.pick(&[0, 0, 1, 2]),
+            1 => random.pick(&[5, 127, 128]),
+            _ => random.between(1..=3000),
+        };
+        Common::of_content(random, content_length)
+    }
+
+    fn of_content(random: &mut Random, content_length: u64) -> Common {
+        Common {
+            density: random.below(8) as u32,
+            content_length,
+            padding: Padding::of_some_book(random),
+        }
+    }
+
+    /// A listing entry of this name.
+    fn listing_item(&self, random: &mut Random, name: &[u8]) -> Item {
+        let fields = stored_fields(random, self.content_length);
+        self.padding.pad(random, Item::new(name, &fields))
+    }
+}
+
 /// A good book of this depth, 1 to 5.
 pub fn book_of_depth(random: &mut Random, depth: u32) -> Book {
-    let density = random.below(8) as u32;
-    let content_length = match random.below(4) {
-        0 => random.pick(&[0, 0, 1, 2]),
-        1 => random.pick(&[5, 127, 128]),
-        _ => random.between(1..=3000),
-    };
+    let common = Common::some(random);
     let levels = if depth == 2 && random.once_in(6) {
-        full_root_levels(random, density, content_length)
+        full_root_levels(random, &common)
     } else {
-        random_levels(random, density, content_length, depth)
+        random_levels(random, &common, depth)
     };
-    numbered(random, levels, density, content_length)
+    numbered(random, levels, &common)
 }
 
 /// A book of so many chunks, a thousand or more; with more than 4,096 only its count is wrong.
@@ -36,56 +63,61 @@ pub fn large_book(random: &mut Random, count: usize) -> Book {
     let indexes = (1..)
         .find(|indexes| (count - 2 - indexes + CHILDREN) / CHILDREN == *indexes)
         .expect("levels of this width");
+    let common = Common::of_content(random, 1000);
     let listing: Level = (0..count - 1 - indexes)
         .map(|chunk| {
             let name = format!("{chunk:06}");
-            let fields = stored_fields(random, 1000);
-            vec![Item::new(name.as_bytes(), &fields)]
+            vec![common.listing_item(random, name.as_bytes())]
         })
         .collect();
-    let density = random.below(8) as u32;
-    let index = index_level(&listing, density, CHILDREN);
-    let root = index_level(&index, density, CHILDREN);
-    numbered(random, vec![listing, index, root], density, 1000)
+    // Padded, so many children would not fit.
+    let short = Common {
+        padding: Padding::NONE,
+        ..common
+    };
+    let index = index_level(random, &listing, &short, CHILDREN);
+    let root = index_level(random, &index, &short, CHILDREN);
+    numbered(random, vec![listing, index, root], &short)
 }
 
 /// A good book with just these entries, one or more, whose names rise. They are spread over the
-/// chunks at random; so are the numbers of the chunks and all that is free.
+/// chunks at random and padded at random; so are the numbers of the chunks and all that is free.
 pub fn book_of_items(random: &mut Random, items: &[Item], content_length: u64) -> Book {
-    let density = random.below(8) as u32;
-    let listing = spread(random, items, density);
+    let common = Common::of_content(random, content_length);
+    let listing = spread(random, items, &common);
     let mut levels = vec![listing];
     let mut most = random.pick(&[2, 3, 5, usize::MAX, usize::MAX]);
     while levels[levels.len() - 1].len() > 1 {
-        let above = index_level(&levels[levels.len() - 1], density, most);
+        let above = index_level(random, &levels[levels.len() - 1], &common, most);
         levels.push(above);
         most = usize::MAX; // three of the longest names or more, so levels get shorter
     }
-    numbered(random, levels, density, content_length)
+    numbered(random, levels, &common)
 }
 
 /// Listing chunks for these entries. Behind the first of them each takes all that fits: few dozens
 /// are needed, for which five levels do.
-fn spread(random: &mut Random, items: &[Item], density: u32) -> Level {
+fn spread(random: &mut Random, items: &[Item], common: &Common) -> Level {
     const FEW: usize = 20;
     let mut level = Level::new();
-    let mut room = Room::new(LISTING_HEADER, density);
+    let mut room = Room::new(LISTING_HEADER, common.density);
     let mut most = 0;
     for item in items {
+        let item = common.padding.pad(random, item.clone());
         let length = item.bytes().len();
         let last = level
             .last_mut()
             .filter(|chunk: &&mut Vec<Item>| chunk.len() < most);
         match last {
-            Some(chunk) if room.take(length) => chunk.push(item.clone()),
+            Some(chunk) if room.take(length) => chunk.push(item),
             _ => {
                 most = match level.len() {
-                    0..=FEW => entry_limit(random, density),
+                    0..=FEW => entry_limit(random, common.density),
                     _ => usize::MAX,
                 };
-                room = Room::new(LISTING_HEADER, density);
+                room = Room::new(LISTING_HEADER, common.density);
                 room.take(length);
-                level.push(vec![item.clone()]);
+                level.push(vec![item]);
             }
         }
     }
@@ -96,7 +128,7 @@ fn spread(random: &mut Random, items: &[Item], density: u32) -> Level {
 type Level = Vec<Vec<Item>>;
 
 /// A tree whose chunks take now few, now many entries.
-fn random_levels(random: &mut Random, density: u32, content_length: u64, depth: u32) -> Vec<Level> {
+fn random_levels(random: &mut Random, common: &Common, depth: u32) -> Vec<Level> {
     let many = depth > 1 && random.once_in(40); // so that a child takes two bytes
     let chunks = match random.below(4) {
         _ if depth == 1 => 1,
@@ -115,15 +147,9 @@ fn random_levels(random: &mut Random, density: u32, content_length: u64, depth: 
     while names.peek().is_some() && (listing.len() as u64) < chunks {
         let most = match many {
             true => random.between(1..=4) as usize,
-            false => entry_limit(random, density),
+            false => entry_limit(random, common.density),
         };
-        listing.push(listing_chunk(
-            random,
-            &mut names,
-            density,
-            content_length,
-            most,
-        ));
+        listing.push(listing_chunk(random, &mut names, common, most));
     }
 
     let mut levels = vec![listing];
@@ -133,7 +159,7 @@ fn random_levels(random: &mut Random, density: u32, content_length: u64, depth: 
         } else {
             random.between(1..=5) as usize
         };
-        let above = index_level(&levels[levels.len() - 1], density, most);
+        let above = index_level(random, &levels[levels.len() - 1], common, most);
         levels.push(above);
     }
     keep_first_tree(&mut levels);
@@ -197,18 +223,17 @@ impl Room {
 fn listing_chunk(
     random: &mut Random,
     names: &mut Peekable<impl Iterator<Item = Vec<u8>>>,
-    density: u32,
-    content_length: u64,
+    common: &Common,
     most: usize,
 ) -> Vec<Item> {
     let mut items = Vec::new();
-    let mut room = Room::new(LISTING_HEADER, density);
+    let mut room = Room::new(LISTING_HEADER, common.density);
     while items.len() < most {
         let name = match names.peek() {
             Some(name) => name,
             None => break,
         };
-        let item = Item::new(name, &stored_fields(random, content_length));
+        let item = common.listing_item(random, name);
         if !room.take(item.bytes().len()) {
             break;
         }
@@ -216,7 +241,10 @@ fn listing_chunk(
         names.next();
     }
     if random.once_in(3) {
-        fill_up(random, &mut items, room.left());
+        match common.padding.is_some() && random.once_in(2) {
+            true => pad_up(&mut items, room.left()),
+            false => fill_up(random, &mut items, room.left()),
+        }
     }
     items
 }
@@ -247,30 +275,41 @@ fn fill_up(random: &mut Random, items: &mut [Item], mut left: usize) {
             return;
         }
         item.fields[0] = item.fields[0].max(1); // outside section 0 they are free
-        for field in &mut item.fields[1..] {
-            let now = encint(*field).len();
+        for number in [OFFSET, LENGTH] {
+            let now = item.numbers()[number].len();
             let wanted = (now + left).min(9);
             if wanted > now {
                 let smallest = 1u64 << (7 * (wanted - 1));
-                *field = random.between(smallest..=2 * smallest - 1);
+                item.fields[number - 1] = random.between(smallest..=2 * smallest - 1);
+                item.padding[number] = 0;
                 left -= wanted - now;
             }
         }
     }
 }
 
+/// Pads numbers until nothing is left free, as far as they go.
+fn pad_up(items: &mut [Item], mut left: usize) {
+    for item in items {
+        for number in [NAME_LENGTH, SECTION, OFFSET, LENGTH] {
+            left -= item.pad(number, left);
+        }
+    }
+}
+
 /// Index entries for the chunks below, in chunks of at most `most` entries. The number below is
-/// put in as the child for now; two bytes are kept for it.
-fn index_level(below: &Level, density: u32, most: usize) -> Level {
+/// put in as the child for now; room for two bytes, and what pads them, is kept.
+fn index_level(random: &mut Random, below: &Level, common: &Common, most: usize) -> Level {
     let mut level = Level::new();
-    let mut room = Room::new(INDEX_HEADER, density);
+    let mut room = Room::new(INDEX_HEADER, common.density);
     for (number, chunk) in below.iter().enumerate() {
         let item = Item::new(&chunk[0].name, &[number as u64]);
-        let length = Item::new(&item.name, &[4095]).bytes().len();
+        let item = common.padding.pad(random, item);
+        let length = item.with_fields(&[4095]).bytes().len();
         let fits = !level.is_empty() && level[level.len() - 1].len() < most && room.take(length);
         if !fits {
             level.push(Vec::new());
-            room = Room::new(INDEX_HEADER, density);
+            room = Room::new(INDEX_HEADER, common.density);
             room.take(length);
         }
         let last = level.len() - 1;
@@ -289,17 +328,17 @@ fn keep_first_tree(levels: &mut [Level]) {
 }
 
 /// Depth 2, with a root that has no free byte.
-fn full_root_levels(random: &mut Random, density: u32, content_length: u64) -> Vec<Level> {
-    let lengths = full_root_lengths(random, density);
+fn full_root_levels(random: &mut Random, common: &Common) -> Vec<Level> {
+    let lengths = full_root_lengths(random, common.density);
     let mut listing = Level::new();
     for (number, &length) in lengths.iter().enumerate() {
         // The first byte sets the order, so the rest is free. Letters are avoided: they fold.
         let mut name = random.bytes(length);
         name[0] = b'{' + number as u8;
-        let mut items = vec![Item::new(&name, &stored_fields(random, content_length))];
+        let mut items = vec![common.listing_item(random, &name)];
         if length < 1024 && random.once_in(2) {
             name.push(random.below(256) as u8);
-            items.push(Item::new(&name, &stored_fields(random, content_length)));
+            items.push(common.listing_item(random, &name));
         }
         listing.push(items);
     }
@@ -328,7 +367,7 @@ fn full_root_lengths(random: &mut Random, density: u32) -> Vec<usize> {
 }
 
 /// Numbers the chunks, links them and chooses all that is free.
-fn numbered(random: &mut Random, levels: Vec<Level>, density: u32, content_length: u64) -> Book {
+fn numbered(random: &mut Random, levels: Vec<Level>, common: &Common) -> Book {
     let depth = levels.len() as u32;
     let count: usize = levels.iter().map(Vec::len).sum();
     let mut numbers: Vec<u32> = (0..count as u32).collect();
@@ -347,7 +386,7 @@ fn numbered(random: &mut Random, levels: Vec<Level>, density: u32, content_lengt
         version,
         time: random.number() as u32,
         language: random.pick(&[0x409, 0x407, 0, NONE]),
-        density,
+        density: common.density,
         depth,
         root: match depth {
             1 => random.pick(&[NONE, 0]),
@@ -358,7 +397,7 @@ fn numbered(random: &mut Random, levels: Vec<Level>, density: u32, content_lengt
         chunks,
         section_first: version == 2 || random.once_in(2),
         gaps,
-        content: random.bytes(content_length as usize),
+        content: random.bytes(common.content_length as usize),
         noise: match random.below(3) {
             0 => None,
             _ => Some(random.number()),

@@ -4,18 +4,26 @@
 //! lays chunks out by itself and does not use the writer. It does share `encint`, `compare` and
 //! `quick_words` with what it tests; the worked examples hold these to docs/FORMAT.md.
 
+use super::padding::{most_leading, padded};
 use super::Random;
 use crate::chunk::{quick_step, quick_words, CHUNK, INDEX_HEADER, LISTING_HEADER};
-use crate::number::encint;
 use crate::open::{DIRECTORY_GUID, DIRECTORY_HEADER, FILE_GUID_1, FILE_GUID_2};
-use crate::{compare, Record, Report, NONE};
+use crate::{compare, Listed, Record, Report, NONE};
 use std::cmp::Ordering;
+
+/// The numbers of an entry by their order: the name's length, then the fields.
+pub const NAME_LENGTH: usize = 0;
+pub const SECTION: usize = 1;
+pub const OFFSET: usize = 2;
+pub const LENGTH: usize = 3;
 
 /// An entry: of a listing chunk with section, offset and length, of an index chunk with a child.
 #[derive(Debug, Clone, PartialEq, Eq)]
 pub struct Item {
     pub name: Vec<u8>,
     pub fields: Vec<u64>,
+    /// How many leading 80 bytes each number has, as far as there is room for them (FORMAT N4).
+    pub padding: [usize; 4],
     /// Bytes to write in place of the well-formed ones.
     pub raw: Option<Vec<u8>>,
 }
@@ -25,21 +33,59 @@ impl Item {
         Item {
             name: name.to_vec(),
             fields: fields.to_vec(),
+            padding: [0; 4],
             raw: None,
         }
+    }
+
+    /// The same entry with other numbers behind the name, well-formed.
+    pub fn with_fields(&self, fields: &[u64]) -> Item {
+        Item {
+            fields: fields.to_vec(),
+            raw: None,
+            ..self.clone()
+        }
+    }
+
+    pub fn value(&self, number: usize) -> u64 {
+        match number {
+            NAME_LENGTH => self.name.len() as u64,
+            field => self.fields[field - 1],
+        }
+    }
+
+    /// All numbers as they are written, with their padding.
+    pub fn numbers(&self) -> Vec<Vec<u8>> {
+        let number = |number: usize| padded(self.value(number), self.padding[number]);
+        (0..=self.fields.len()).map(number).collect()
+    }
+
+    /// Puts so many more leading 80 bytes in front of a number, or as many as there is room for;
+    /// says how many.
+    pub fn pad(&mut self, number: usize, more: usize) -> usize {
+        let most = most_leading(self.value(number));
+        let now = self.padding[number].min(most);
+        let taken = more.min(most - now);
+        self.padding[number] = now + taken;
+        taken
+    }
+
+    /// Where the name stands in the well-formed bytes.
+    fn name_at(&self) -> usize {
+        padded(self.value(NAME_LENGTH), self.padding[NAME_LENGTH]).len()
     }
 
     pub fn bytes(&self) -> Vec<u8> {
         if let Some(raw) = &self.raw {
             return raw.clone();
         }
-        let mut bytes = encint(self.name.len() as u64);
-        bytes.extend(&self.name);
-        for &field in &self.fields {
-            bytes.extend(encint(field));
-        }
-        bytes
+        entry_bytes(&self.name, &self.numbers())
     }
+}
+
+/// An entry with this name and these bytes for its numbers.
+pub fn entry_bytes(name: &[u8], numbers: &[Vec<u8>]) -> Vec<u8> {
+    [&numbers[NAME_LENGTH], name, &numbers[1..].concat()].concat()
 }
 
 /// A chunk; only a listing chunk has links, its previous and its next.
@@ -88,6 +134,15 @@ impl Planned {
             at += item.bytes().len();
         }
         starts
+    }
+
+    /// The same chunk with every number in its short form.
+    pub fn short(&self) -> Planned {
+        let mut short = self.clone();
+        for item in &mut short.items {
+            item.padding = [0; 4];
+        }
+        short
     }
 
     fn bytes(&self, density: u32, noise: &mut Noise) -> Vec<u8> {
@@ -331,29 +386,33 @@ impl Book {
         chunks.flat_map(|chunk| &chunk.items).collect()
     }
 
-    /// What the listing of a good book has to report.
-    pub fn reports(&self) -> Vec<Report> {
+    /// What the listing of a good book has to report, with the entries' own bytes.
+    pub fn listed(&self) -> Vec<Listed> {
         let chain = self.chain();
-        let reports = chain.iter().flat_map(|&number| self.reports_of(number));
-        reports.collect()
+        let listed = chain.iter().flat_map(|&number| self.listed_of(number));
+        listed.collect()
     }
 
     /// What has to be reported of a good listing chunk.
-    pub fn reports_of(&self, number: u32) -> Vec<Report> {
+    pub fn listed_of(&self, number: u32) -> Vec<Listed> {
         let chunk = &self.chunks[number as usize];
         let entries = self.chunk_place(number) + LISTING_HEADER;
-        let mut reports = Vec::new();
+        let mut listed = Vec::new();
         for (start, item) in chunk.starts().iter().zip(&chunk.items) {
-            let length = item.name.len() as u64;
-            reports.push(Report {
-                place: (entries + start + encint(length).len()) as u64,
-                length,
-                section: item.fields[0],
-                offset: item.fields[1],
-                size: item.fields[2],
+            let place = entries + start;
+            listed.push(Listed {
+                report: Report {
+                    place: (place + item.name_at()) as u64,
+                    length: item.name.len() as u64,
+                    section: item.fields[0],
+                    offset: item.fields[1],
+                    size: item.fields[2],
+                },
+                place: place as u64,
+                length: item.bytes().len() as u64,
             });
         }
-        reports
+        listed
     }
 
     /// What has to be reported of the first entry with this name, in good listing chunks that are
@@ -364,7 +423,7 @@ impl Book {
             let at = items
                 .iter()
                 .position(|item| compare(&item.name, name) == Ordering::Equal)?;
-            Some(self.reports_of(number)[at])
+            Some(self.listed_of(number)[at].report)
         })
     }
 

@@ -3,7 +3,8 @@
 use super::book::{stored_fields, Room};
 use super::damage::{Bounds, ENTRY_BREAKS};
 use super::names::{other_case, rising_names};
-use super::plan::Item;
+use super::padding::leading;
+use super::plan::{Item, LENGTH, NAME_LENGTH, OFFSET, SECTION};
 use super::{choose, labels_of, Aim, Call, Case, Input, Kind, Random};
 use crate::chunk::{INDEX_HEADER, LISTING_HEADER};
 use crate::number::encint;
@@ -186,6 +187,20 @@ impl Writing {
         self.join();
         Some(Aim::refused(18))
     }
+
+    /// Pads a number of the first entry, of the last or of one between them; nothing if there is no
+    /// room for a leading byte (FORMAT W2).
+    fn pad_number(&mut self, random: &mut Random, number: usize) -> Option<Aim> {
+        let last = self.items.len() - 1;
+        let at = random.pick(&[0, last / 2, last]);
+        self.pad_at(random, at, number)
+    }
+
+    fn pad_at(&mut self, random: &mut Random, at: usize, number: usize) -> Option<Aim> {
+        let padded = self.items[at].pad(number, leading(random));
+        self.join();
+        (padded > 0).then(|| Aim::refused(18))
+    }
 }
 
 /// A call of the writer, of some kind.
@@ -249,6 +264,30 @@ const WRITES: &[Kind<Writing>] = &[
         change: |random, writing| {
             let at = random.index(writing.items.len());
             writing.break_entry(random, at)
+        },
+    },
+    Kind {
+        label: "writer with a padded name length",
+        change: |random, writing| writing.pad_number(random, NAME_LENGTH),
+    },
+    Kind {
+        label: "writer with a padded section",
+        change: |random, writing| writing.pad_number(random, SECTION),
+    },
+    Kind {
+        label: "writer with a padded offset",
+        change: |random, writing| writing.pad_number(random, OFFSET),
+    },
+    Kind {
+        label: "writer with a padded length",
+        change: |random, writing| writing.pad_number(random, LENGTH),
+    },
+    Kind {
+        label: "writer with too deep a tree and a padded last entry",
+        change: |random, writing| {
+            writing.replace(deep_items(random, 250));
+            let number = random.pick(&[NAME_LENGTH, SECTION, OFFSET, LENGTH]);
+            writing.pad_at(random, 249, number)
         },
     },
     Kind {

@@ -7,14 +7,33 @@ pub use broken::break_names;
 
 use super::lookup::askable;
 use crate::generate::book::book;
+use crate::generate::padding::{leading, padded};
 use crate::generate::plan::Book;
 use crate::generate::{choose, labels_of, Aim, Call, Case, Kind, Random};
-use crate::{encint, ANSWER};
+use crate::ANSWER;
+
+/// A name behind its length, which has so many leading 80 bytes as far as there is room.
+fn with_length(name: &[u8], leading: usize) -> Vec<u8> {
+    [&padded(name.len() as u64, leading), name].concat()
+}
+
+/// The names one behind another, each with its length, padded by as many bytes as are said for it.
+fn joined_by(names: &[Vec<u8>], mut leading: impl FnMut() -> usize) -> Vec<u8> {
+    let names = names.iter().map(|name| with_length(name, leading()));
+    names.collect::<Vec<_>>().concat()
+}
 
 /// The names one behind another, each with its length (FORMAT B2).
 pub fn joined(names: &[Vec<u8>]) -> Vec<u8> {
-    let with_length = |name: &Vec<u8>| [encint(name.len() as u64), name.clone()].concat();
-    names.iter().map(with_length).collect::<Vec<_>>().concat()
+    joined_by(names, || 0)
+}
+
+/// The same with some of the lengths padded, which changes no answer (FORMAT N4).
+pub fn joined_padded(random: &mut Random, names: &[Vec<u8>]) -> Vec<u8> {
+    joined_by(names, || match random.once_in(2) {
+        true => leading(random),
+        false => 0,
+    })
 }
 
 /// A batch of a few names in a good book, or what has been made of it.

@@ -37,6 +37,12 @@ impl Stepping {
             book,
         }
     }
+
+    /// The entry that the cursor is at is reported as it was planned.
+    fn told(&self) -> Option<Aim> {
+        let listed = self.book.listed_of(self.chunk);
+        Some(Aim::Listed(listed[self.cursor.entry as usize]))
+    }
 }
 
 /// A step of a listing, of some kind.
@@ -56,7 +62,7 @@ pub fn step_case(random: &mut Random) -> Case {
 pub(super) const STEPS: &[Kind<Stepping>] = &[
     Kind {
         label: "step",
-        change: |_, _| Some(Aim::Good),
+        change: |_, stepping| stepping.told(),
     },
     Kind {
         label: "step at the end",
@@ -131,7 +137,7 @@ pub(super) const STEPS: &[Kind<Stepping>] = &[
         label: "step in a file that ends with the directory",
         change: |_, stepping| {
             end_with_directory(&stepping.book, &mut stepping.file, &mut stepping.record);
-            Some(Aim::Good)
+            stepping.told()
         },
     },
     Kind {
@@ -146,7 +152,7 @@ pub(super) const STEPS: &[Kind<Stepping>] = &[
         label: "step in the last chunk below the count",
         change: |_, stepping| {
             stepping.record.count = u64::from(stepping.chunk) + 1;
-            Some(Aim::Good)
+            stepping.told()
         },
     },
     Kind {

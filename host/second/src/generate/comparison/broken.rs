@@ -1,6 +1,6 @@
 //! Comparisons with a broken chunk, a broken chain or a broken index in one book or in both.
 
-use super::issues::{listed, Issues};
+use super::issues::Issues;
 use super::{Course, Made, Way};
 use crate::generate::ask::{break_chunk, break_some_chunk, end_inside};
 use crate::generate::damage::{damage_for, index_entry, set_next};
@@ -74,11 +74,8 @@ fn ring(random: &mut Random, side: usize) -> Option<Made> {
 
     let book = &mut issues.books[side];
     let again = chain[back..=last].iter().cycle();
-    let mut listing = book.clone();
     for &chunk in again.take(chain_left(book, last + 1)) {
-        listing.first = chunk;
-        let entries = listing.chunks[chunk as usize].items.len();
-        let entries = listed(&listing).into_iter().take(entries);
+        let entries = book.listed_of(chunk).into_iter();
         differences.extend(entries.map(|listed| match side {
             FIRST => Difference::OnlyFirst(listed),
             _ => Difference::OnlySecond(listed),

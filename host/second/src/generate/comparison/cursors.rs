@@ -4,8 +4,7 @@ use super::{Comparison, Given};
 use crate::chunk::{CHUNK, LISTING_HEADER};
 use crate::generate::ask::{bad_record, made_up_record};
 use crate::generate::Random;
-use crate::number::encint;
-use crate::{chunk_entries, compare_start, Progress, Record, Walk, NONE};
+use crate::{chunk_entries, chunk_listed, compare_start, Progress, Record, Walk, NONE};
 
 const TOP: u64 = u64::MAX;
 const NO_CHUNK: u64 = NONE as u64;
@@ -53,16 +52,12 @@ impl Draft<'_> {
     fn listing(&self, random: &mut Random) -> Option<Listing> {
         let Given { file, record } = self.given();
         let chunk = random.below(record.count.clamp(1, 4096));
-        let (reports, next) = chunk_entries(file, record, chunk).ok()?;
+        let (entries, next) = chunk_listed(file, record, chunk).ok()?;
         let start = record.start + 84 + CHUNK as u64 * chunk;
-        let place = |at: usize| {
-            let report = &reports[at];
-            report.place - encint(report.length).len() as u64 - start
-        };
-        let places: Vec<u64> = (0..reports.len()).map(place).collect();
+        let places = entries.iter().map(|listed| listed.place - start);
         Some(Listing {
             chunk,
-            places,
+            places: places.collect(),
             next: next.into(),
         })
     }

@@ -5,8 +5,7 @@ use crate::generate::book::{book, book_of_items, stored_fields};
 use crate::generate::names::{other_case, rising_names};
 use crate::generate::plan::{Book, Item};
 use crate::generate::Random;
-use crate::number::encint;
-use crate::{Difference, Listed, Totals};
+use crate::{Difference, Totals};
 
 /// Two books by their names.
 pub(super) struct Issues {
@@ -127,7 +126,7 @@ impl Issues {
 
     /// The differences among so many names, and the totals.
     pub fn differences(&self, behind: usize) -> (Vec<Difference>, Totals) {
-        let mut listed = [0, 1].map(|side| listed(&self.books[side]).into_iter());
+        let mut listed = [0, 1].map(|side: usize| self.books[side].listed().into_iter());
         let mut differences = Vec::new();
         let mut totals = Totals::default();
         for name in &self.names[..behind] {
@@ -179,17 +178,6 @@ impl Issues {
         self.names
             .retain(|[one, two]| one.is_some() || two.is_some());
     }
-}
-
-/// The seven numbers of each entry that a book lists (FORMAT X9).
-pub(super) fn listed(book: &Book) -> Vec<Listed> {
-    let reports = book.reports().into_iter().zip(book.items());
-    let listed = reports.map(|(report, item)| Listed {
-        report,
-        place: report.place - encint(report.length).len() as u64,
-        length: item.bytes().len() as u64,
-    });
-    listed.collect()
 }
 
 fn some_names(random: &mut Random) -> Vec<Vec<u8>> {

@@ -3,7 +3,9 @@
 use super::Damage;
 use crate::chunk::{quick_step, quick_words, CHUNK};
 use crate::generate::names::other_case;
-use crate::generate::plan::{Book, Item, Planned, Spot};
+use crate::generate::padding::{overpadded, padded};
+use crate::generate::plan::{entry_bytes, Book, Item, Planned, Spot};
+use crate::generate::plan::{LENGTH, NAME_LENGTH, OFFSET, SECTION};
 use crate::generate::Random;
 use crate::number::encint;
 
@@ -23,66 +25,74 @@ pub const ENTRY_BREAKS: [EntryBreak; 7] = [
     no_name,
     long_name,
     far_name_length,
-    padded_number,
+    some_ten_bytes,
     long_number,
     high_section,
     beyond_content,
 ];
 
-fn encints(values: &[u64]) -> Vec<Vec<u8>> {
-    values.iter().map(|&value| encint(value)).collect()
+/// The child of an index entry stands where a listing entry has its section.
+const CHILD: usize = SECTION;
+
+/// The entry with another name, and with these bytes for one of its numbers.
+fn with_name(item: &Item, name: &[u8], at: usize, number: Vec<u8>) -> Option<Vec<u8>> {
+    let mut numbers = item.numbers();
+    numbers[at] = number;
+    Some(entry_bytes(name, &numbers))
 }
 
-fn entry_bytes(length: &[u8], name: &[u8], fields: &[Vec<u8>]) -> Vec<u8> {
-    [length, name, &fields.concat()].concat()
+fn with_number(item: &Item, at: usize, number: Vec<u8>) -> Option<Vec<u8>> {
+    with_name(item, &item.name, at, number)
 }
 
 fn with_fields(item: &Item, fields: &[u64]) -> Option<Vec<u8>> {
-    Some(Item::new(&item.name, fields).bytes())
+    Some(item.with_fields(fields).bytes())
 }
 
 fn no_name(_: &mut Random, item: &Item, _: &Bounds) -> Option<Vec<u8>> {
-    Some(entry_bytes(&[0], &[], &encints(&item.fields)))
+    let length = padded(0, item.padding[NAME_LENGTH]);
+    with_name(item, &[], NAME_LENGTH, length)
 }
 
 fn long_name(random: &mut Random, item: &Item, _: &Bounds) -> Option<Vec<u8>> {
     let mut name = item.name.clone();
     name.resize(random.pick(&[1025, 1025, 1026, 2048]), b'x');
-    Some(Item::new(&name, &item.fields).bytes())
+    let length = padded(name.len() as u64, item.padding[NAME_LENGTH]);
+    with_name(item, &name, NAME_LENGTH, length)
 }
 
 /// A length that is right in 16 or 32 bits only.
 fn far_name_length(random: &mut Random, item: &Item, _: &Bounds) -> Option<Vec<u8>> {
     let length = item.name.len() as u64;
     let wrong = random.pick(&[length + (1 << 16), length + (1 << 32), TOP_63]);
-    let fields = encints(&item.fields);
-    Some(entry_bytes(&encint(wrong), &item.name, &fields))
+    with_number(item, NAME_LENGTH, encint(wrong))
 }
 
-/// Changes one of the entry's ENCINTs.
-fn with_number(item: &Item, at: usize, change: impl Fn(&[u8]) -> Vec<u8>) -> Option<Vec<u8>> {
-    let mut numbers = encints(&item.fields);
-    numbers.insert(0, encint(item.name.len() as u64));
-    numbers[at] = change(&numbers[at]);
-    Some(entry_bytes(&numbers[0], &item.name, &numbers[1..]))
+/// Pads a number to ten bytes, one more than there is room for (FORMAT N3, N4).
+fn ten_bytes(item: &Item, at: usize) -> Option<Vec<u8>> {
+    with_number(item, at, overpadded(item.value(at), 0))
 }
 
-fn padded_number(random: &mut Random, item: &Item, _: &Bounds) -> Option<Vec<u8>> {
-    let at = random.index(item.fields.len() + 1);
-    with_number(item, at, |number| [&[0x80], number].concat())
+/// The same in an entry with so many fields; nothing in others.
+fn ten_bytes_of(fields: usize, item: &Item, at: usize) -> Option<Vec<u8>> {
+    match item.fields.len() == fields {
+        true => ten_bytes(item, at),
+        false => None,
+    }
+}
+
+fn some_ten_bytes(random: &mut Random, item: &Item, _: &Bounds) -> Option<Vec<u8>> {
+    ten_bytes(item, random.index(item.fields.len() + 1))
 }
 
 /// Ten bytes or more before one has bit 7 clear.
 fn long_number(random: &mut Random, item: &Item, _: &Bounds) -> Option<Vec<u8>> {
     let at = random.index(item.fields.len() + 1);
-    let (lead, first) = random.pick(&[(9, 0xFF), (9, 0x81), (10, 0xFF), (20, 0x82)]);
-    let last = random.pick(&[0x7F, 0x01, 0x00]);
-    with_number(item, at, |_| {
-        let mut number = vec![0xFF; lead];
-        number[0] = first;
-        number.push(last);
-        number
-    })
+    let (lead, first) = random.pick(&[(9, 0xFF), (9, 0x81), (9, 0x80), (10, 0xFF), (20, 0x82)]);
+    let mut number = vec![random.pick(&[0xFF, 0xFF, 0x80]); lead];
+    number[0] = first;
+    number.push(random.pick(&[0x7F, 0x01, 0x00]));
+    with_number(item, at, number)
 }
 
 fn high_section(random: &mut Random, item: &Item, _: &Bounds) -> Option<Vec<u8>> {
@@ -122,10 +132,9 @@ fn far_child(random: &mut Random, item: &Item, bounds: &Bounds) -> Option<Vec<u8
 
 /// A name that reaches to the end of the entry or one byte beyond.
 fn name_past_end(random: &mut Random, item: &Item, _: &Bounds) -> Option<Vec<u8>> {
-    let behind = encints(&item.fields).concat().len() as u64;
+    let behind = item.numbers()[1..].concat().len() as u64;
     let length = item.name.len() as u64 + behind + random.below(2);
-    let fields = encints(&item.fields);
-    Some(entry_bytes(&encint(length), &item.name, &fields))
+    with_number(item, NAME_LENGTH, encint(length))
 }
 
 /// A last ENCINT that never ends.
@@ -200,6 +209,23 @@ fn some_word(random: &mut Random, book: &Book, least: usize) -> Option<(u32, usi
 
 fn word_place(k: usize) -> usize {
     CHUNK - 2 - 2 * k
+}
+
+/// The quick words of a chunk from the first to the last (FORMAT C8).
+fn words_of(chunk: &Planned, density: u32) -> Vec<usize> {
+    let step = quick_step(density.into()) as usize;
+    let starts = chunk.starts();
+    (1..=chunk.words(density))
+        .map(|k| starts[k * step])
+        .collect()
+}
+
+/// Writes other quick words over those of a chunk.
+fn set_words(book: &mut Book, number: u32, words: &[usize]) -> u32 {
+    for (k, &word) in (1..).zip(words) {
+        book.poke(Spot::Chunk(number, word_place(k)), 2, word as u64);
+    }
+    number
 }
 
 /// Sets quick word `k` to something else than its right value.
@@ -390,8 +416,34 @@ pub const DAMAGES: &[Damage] = &[
     },
     Damage {
         number: 10,
-        label: "ENCINT that starts with 80",
-        apply: |random, book| broken_entry(random, book, padded_number),
+        label: "name length padded to ten bytes",
+        apply: |random, book| broken_entry(random, book, |_, item, _| ten_bytes(item, NAME_LENGTH)),
+    },
+    Damage {
+        number: 10,
+        label: "section padded to ten bytes",
+        apply: |random, book| {
+            broken_entry(random, book, |_, item, _| ten_bytes_of(3, item, SECTION))
+        },
+    },
+    Damage {
+        number: 10,
+        label: "offset padded to ten bytes",
+        apply: |random, book| {
+            broken_entry(random, book, |_, item, _| ten_bytes_of(3, item, OFFSET))
+        },
+    },
+    Damage {
+        number: 10,
+        label: "length padded to ten bytes",
+        apply: |random, book| {
+            broken_entry(random, book, |_, item, _| ten_bytes_of(3, item, LENGTH))
+        },
+    },
+    Damage {
+        number: 10,
+        label: "child padded to ten bytes",
+        apply: |random, book| broken_entry(random, book, |_, item, _| ten_bytes_of(1, item, CHILD)),
     },
     Damage {
         number: 10,
@@ -500,14 +552,9 @@ pub const DAMAGES: &[Damage] = &[
         label: "quick words in the other direction",
         apply: |random, book| {
             let (number, _) = some_word(random, book, 2)?;
-            let chunk = &book.chunks[number as usize];
-            let (starts, words) = (chunk.starts(), chunk.words(book.density));
-            let step = quick_step(book.density.into()) as usize;
-            for k in 1..=words {
-                let value = starts[(words + 1 - k) * step] as u64;
-                book.poke(Spot::Chunk(number, word_place(k)), 2, value);
-            }
-            Some(number)
+            let mut words = words_of(&book.chunks[number as usize], book.density);
+            words.reverse();
+            Some(set_words(book, number, &words))
         },
     },
     Damage {
@@ -516,17 +563,13 @@ pub const DAMAGES: &[Damage] = &[
         apply: |random, book| {
             let (number, _) = some_word(random, book, 2)?;
             let chunk = &book.chunks[number as usize];
-            let (starts, words) = (chunk.starts(), chunk.words(book.density));
-            let step = quick_step(book.density.into()) as usize;
-            if chunk.tail() < 4 * words {
+            let words = words_of(chunk, book.density);
+            if chunk.tail() < 4 * words.len() {
                 return None;
             }
-            for k in 1..=words {
-                book.poke(Spot::Chunk(number, word_place(k)), 2, 0);
-            }
-            for k in 1..=words {
-                let value = starts[k * step] as u64;
-                book.poke(Spot::Chunk(number, CHUNK - 4 * k), 2, value);
+            set_words(book, number, &vec![0; words.len()]);
+            for (k, &word) in (1..).zip(&words) {
+                book.poke(Spot::Chunk(number, CHUNK - 4 * k), 2, word as u64);
             }
             Some(number)
         },
@@ -536,14 +579,23 @@ pub const DAMAGES: &[Damage] = &[
         label: "quick words that start with entry 0",
         apply: |random, book| {
             let (number, _) = some_word(random, book, 1)?;
+            let mut words = words_of(&book.chunks[number as usize], book.density);
+            words.rotate_right(1);
+            words[0] = 0;
+            Some(set_words(book, number, &words))
+        },
+    },
+    Damage {
+        number: 11,
+        label: "quick words that leave padding out",
+        apply: |random, book| {
+            let (number, _) = some_word(random, book, 1)?;
             let chunk = &book.chunks[number as usize];
-            let (starts, words) = (chunk.starts(), chunk.words(book.density));
-            let step = quick_step(book.density.into()) as usize;
-            for k in 1..=words {
-                let value = starts[(k - 1) * step] as u64;
-                book.poke(Spot::Chunk(number, word_place(k)), 2, value);
+            let short = words_of(&chunk.short(), book.density);
+            if short == words_of(chunk, book.density) {
+                return None;
             }
-            Some(number)
+            Some(set_words(book, number, &short))
         },
     },
 ];

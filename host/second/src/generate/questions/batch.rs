@@ -1,7 +1,7 @@
 //! Batches about some bytes.
 
 use super::{some_name, Bytes};
-use crate::generate::ask::{break_names, joined};
+use crate::generate::ask::{break_names, joined, joined_padded};
 use crate::generate::{Call, Random};
 use crate::ANSWER;
 
@@ -16,9 +16,10 @@ impl Bytes<'_> {
     pub fn batch(&self, random: &mut Random, names: &[Vec<u8>]) -> Call {
         let count = random.pick(&[0, 1, 2, 3, 5, 8]);
         let asked: Vec<Vec<u8>> = (0..count).map(|_| some_name(random, names)).collect();
-        let bytes = match count > 0 && random.once_in(5) {
-            true => break_names(random, &asked),
-            false => joined(&asked),
+        let bytes = match random.below(5) {
+            0 if count > 0 => break_names(random, &asked),
+            1 => joined_padded(random, &asked),
+            _ => joined(&asked),
         };
         let needed = ANSWER * count;
         let less = random.pick(&[1, 31, 32, needed]);
@@ -39,7 +40,10 @@ impl Bytes<'_> {
         let mut asked: Vec<Vec<u8>> = short.take(2).cloned().collect();
         asked.extend([Vec::new(), b"/".to_vec()]);
         random.shuffle(&mut asked);
-        let bytes = joined(&asked);
+        let bytes = match random.once_in(2) {
+            true => joined_padded(random, &asked),
+            false => joined(&asked),
+        };
         let room = ANSWER * asked.len();
         let cut = |length| Call::Batch {
             names: bytes[..length].to_vec(),

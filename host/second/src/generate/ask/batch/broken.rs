@@ -1,7 +1,8 @@
 //! Batches that are refused: broken names, too little room, refused books.
 
-use super::{joined, Batch};
+use super::{joined, with_length, Batch};
 use crate::generate::damage::damage_for;
+use crate::generate::padding::{overpadded, padded};
 use crate::generate::{Aim, Kind, Random};
 use crate::{encint, Refusal, ANSWER};
 
@@ -9,13 +10,17 @@ use crate::{encint, Refusal, ANSWER};
 /// bytes that stand in the place of its length, the name and these.
 type Break = fn(&mut Random, name: &[u8], behind: &[u8]) -> Vec<u8>;
 
-const BREAKS: &[Break] = &[padded, endless, ended, cut, one_more, far];
+const BREAKS: &[Break] = &[too_padded, endless, ended, cut, one_more, far];
 
-/// With zeros in front of the length (FORMAT N4).
-fn padded(random: &mut Random, name: &[u8], behind: &[u8]) -> Vec<u8> {
-    let zeros = random.between(1..=3) as usize;
-    let length = encint(name.len() as u64);
-    [&vec![0x80; zeros][..], &length, name, behind].concat()
+/// How many leading 80 bytes the length of a broken name has, often none.
+fn some_leading(random: &mut Random) -> usize {
+    random.pick(&[0, 0, 1, 8])
+}
+
+/// With a length padded to ten bytes or more (FORMAT N3, N4).
+fn too_padded(random: &mut Random, name: &[u8], behind: &[u8]) -> Vec<u8> {
+    let length = overpadded(name.len() as u64, random.pick(&[0, 0, 1, 9]));
+    [&length, name, behind].concat()
 }
 
 /// With a length that goes on behind its ninth byte (FORMAT N3).
@@ -25,9 +30,9 @@ fn endless(random: &mut Random, name: &[u8], behind: &[u8]) -> Vec<u8> {
     [&nine[..], &[tenth], name, behind].concat()
 }
 
-/// So many bytes of a length that is not padded and does not end with them.
+/// So many bytes of a length that does not end with them.
 fn going_on(random: &mut Random, length: usize) -> Vec<u8> {
-    let first = random.pick(&[0x81, 0xFF]);
+    let first = random.pick(&[0x80, 0x81, 0xFF]);
     let other = random.pick(&[0x80, 0x81, 0xFF]);
     let mut bytes = vec![other; length];
     bytes[0] = first;
@@ -42,7 +47,7 @@ fn ended(random: &mut Random, _: &[u8], _: &[u8]) -> Vec<u8> {
 
 /// Ends inside the length or the name as it is, or, for the empty name, behind a length of 1.
 fn cut(random: &mut Random, name: &[u8], _: &[u8]) -> Vec<u8> {
-    let mut whole = [encint(name.len() as u64), name.to_vec()].concat();
+    let mut whole = with_length(name, some_leading(random));
     if whole.len() == 1 {
         return vec![0x01];
     }
@@ -53,9 +58,10 @@ fn cut(random: &mut Random, name: &[u8], _: &[u8]) -> Vec<u8> {
 }
 
 /// With one byte too few behind the length.
-fn one_more(_: &mut Random, name: &[u8], behind: &[u8]) -> Vec<u8> {
+fn one_more(random: &mut Random, name: &[u8], behind: &[u8]) -> Vec<u8> {
     let left = name.len() + behind.len();
-    [&encint(left as u64 + 1), name, behind].concat()
+    let length = padded(left as u64 + 1, some_leading(random));
+    [&length, name, behind].concat()
 }
 
 /// With a length far above the bytes that are left. In 16 or 32 bits some of these would do.
@@ -121,8 +127,8 @@ impl Batch {
 
 pub const KINDS: &[Kind<Batch>] = &[
     Kind {
-        label: "batch with a padded length",
-        change: |random, batch| batch.break_by(random, padded),
+        label: "batch with a length padded to ten bytes or more",
+        change: |random, batch| batch.break_by(random, too_padded),
     },
     Kind {
         label: "batch with a length of more than nine bytes",

@@ -1,7 +1,7 @@
 //! Batches that are answered: names and room keep the rules.
 
 use super::super::lookup::{askable, present, unaskable};
-use super::{joined, Batch};
+use super::{joined, joined_by, joined_padded, Batch};
 use crate::generate::names::{near_miss, other_case};
 use crate::generate::{Kind, Random};
 
@@ -126,6 +126,26 @@ pub const KINDS: &[Kind<Batch>] = &[
             let names = vec![vec![0x00], vec![0xFF], vec![0xFF; 1024], longest];
             let names = mixed(random, batch, names);
             Some(batch.ask(names))
+        },
+    },
+    Kind {
+        label: "batch with padded lengths",
+        change: |random, batch| {
+            let wrong = match random.once_in(2) {
+                true => vec![unaskable(random)],
+                false => Vec::new(),
+            };
+            let names = mixed(random, batch, wrong);
+            let aim = batch.ask(names);
+            batch.bytes = joined_padded(random, &batch.names);
+            Some(aim)
+        },
+    },
+    Kind {
+        label: "batch with lengths of nine bytes",
+        change: |_, batch| {
+            batch.bytes = joined_by(&batch.names, || 8);
+            Some(batch.told())
         },
     },
     Kind {
