@@ -72,6 +72,10 @@ module _ (s : List ℕ) (at : ℕ) where
   unfolding encintAt decoded
   at-number = refl
 
+  -- a byte with the high bit is not the last
+  pub at-cut : at < length s → 128 ≤ getD s at 0 → length s ≤ at + 1 → encintAt s at ≡ Bad
+  at-cut h k e = at-number ∙ turn-more s 9 0 at (omega arith) h k ∙ turn-past s 8 (0 * 128 + getD s at 0 % 128) (at + 1) e
+
   -- most numbers have one byte
   pub at-one : at < length s → getD s at 0 < 128 → encintAt s at ≡ Value (getD s at 0) (at + 1)
   at-one h k = at-number ∙ turn-last s 9 0 at (omega arith) h k ∙ ap (λ (v : ℕ). Value v (at + 1)) (omega arith)

@@ -46,7 +46,8 @@ fn groups_at(s: &[u8], at: usize) -> Number
     Number::Bad
 }
 
-// The number at `at`, not past the end of s. Most numbers of a directory have one byte, so that case comes first.
+// The number at `at`, not past the end of s. Most numbers of a directory have one byte, so that case comes first. A byte that is to be followed by another
+// must not be the last (DECISIONS 79 says what this test is worth).
 pub fn read(s: &[u8], at: usize) -> Number
     ensures number { λ r. ⌜ r ≡ encintAt (now (s .entry)) at ⌝ }
     ensures exact { λ r. ⌜ ReadExact (now (s .entry)) at r ⌝ }
@@ -55,8 +56,12 @@ pub fn read(s: &[u8], at: usize) -> Number
         return Number::Bad;
     }
     let b = s[at];
+    let next = at + 1;
     if b < 128 {
-        return Number::Value(b as u64, at + 1);
+        return Number::Value(b as u64, next);
+    }
+    if s.len() <= next {
+        return Number::Bad;
     }
     groups_at(s, at)
 }
