@@ -5,6 +5,7 @@ use mathlib.Core.List.{List, [], _∷_, _++_}
 use Prim.Native.Nat.{ℕ, _-_, _^_}
 use lib.ListN.{length, replicate}
 use Rattle.encint.specs.Encint.{rest, decoded, encintAt, groups, leading, encoded}
+use Rattle.encint.specs.Padded.{padded}
 use Rattle.encint.specs.declared.Number.the-variants.{Value, Bad}
 
 -- bytes, the value they stand for, and how many leading bytes 80 they have
@@ -17,14 +18,14 @@ infix 80 _is_
 abbrev _is_ : List ℕ → ℕ → Example
 l is v = record { bytes = l; value = v; padding = 0 }
 
-abbrev padded : ℕ → Example → Example
-padded k e = record { bytes = e .bytes; value = e .value; padding = k }
+abbrev behind : ℕ → Example → Example
+behind k e = record { bytes = e .bytes; value = e .value; padding = k }
 
 -- all the bytes are read as the value, and are the leading bytes 80 and what is written for it
 abbrev Accepted : List Example → Type 0
 Accepted [] = Unit {0}
 Accepted (e ∷ es) =
-    (encintAt (e .bytes) 0 ≡ Value (e .value) (length (e .bytes))) × (e .bytes ≡ replicate (e .padding) 128 ++ encoded (e .value)) × Accepted es
+    (encintAt (e .bytes) 0 ≡ Value (e .value) (length (e .bytes))) × (e .bytes ≡ padded (e .padding) (e .value)) × Accepted es
 
 abbrev Refused : List (List ℕ) → Type 0
 Refused [] = Unit {0}
@@ -40,11 +41,11 @@ pub accepted :
     ∷ (0xFF ∷ 0x7F ∷ []) is 16383
     ∷ (0x81 ∷ 0x80 ∷ 0x00 ∷ []) is 16384
     ∷ (replicate 8 0xFF ++ (0x7F ∷ [])) is (2 ^ 63 - 1)
-    ∷ padded 1 ((0x80 ∷ 0x01 ∷ []) is 1)
-    ∷ padded 1 ((0x80 ∷ 0x00 ∷ []) is 0)
-    ∷ padded 1 ((0x80 ∷ 0x81 ∷ 0x00 ∷ []) is 128)
-    ∷ padded 8 ((replicate 8 0x80 ++ (0x01 ∷ [])) is 1)
-    ∷ padded 8 ((replicate 8 0x80 ++ (0x00 ∷ [])) is 0)
+    ∷ behind 1 ((0x80 ∷ 0x01 ∷ []) is 1)
+    ∷ behind 1 ((0x80 ∷ 0x00 ∷ []) is 0)
+    ∷ behind 1 ((0x80 ∷ 0x81 ∷ 0x00 ∷ []) is 128)
+    ∷ behind 8 ((replicate 8 0x80 ++ (0x01 ∷ [])) is 1)
+    ∷ behind 8 ((replicate 8 0x80 ++ (0x00 ∷ [])) is 0)
     ∷ [])
 unfolding rest decoded encintAt groups leading encoded
 accepted = (

@@ -78,8 +78,8 @@ module _ (s : List ℕ) (bytes : (i : ℕ) → getD s i 0 < 256) (content : ℕ)
         )
 
     -- the entry and what stands behind it
-    entry-first : unpadded s e ≡ true → drop at s ≡ entryBytes true (storedOf s e) ++ drop (e .next) s
-    entry-first u =
+    entry-ahead : unpadded s e ≡ true → drop at s ≡ entryBytes true (storedOf s e) ++ drop (e .next) s
+    entry-ahead u =
         let i = listing-inside content s at e q in
         let h : e .at ≡ at = i .same in
         let m : e .at + (e .next - e .at) ≡ e .next = omega (arith, i .moves) in
@@ -103,7 +103,7 @@ module _ (s : List ℕ) (bytes : (i : ℕ) → getD s i 0 < 256) (content : ℕ)
       let v : (unpadded s e && allUnpadded s es) ≡ true = rw q at u in
       let k : endOf (e .next) es ≡ length s = rw q at h in
       let w = and-both (unpadded s e) (allUnpadded s es) v in
-      rw q (entry-first at e q (w .0) ∙ ap (λ (b : List ℕ). entryBytes true (storedOf s e) ++ b) (run-bytes left (e .next) k (w .1))))
+      rw q (entry-ahead at e q (w .0) ∙ ap (λ (b : List ℕ). entryBytes true (storedOf s e) ++ b) (run-bytes left (e .next) k (w .1))))
 
   -- an input that the writer takes
   pub input-bytes : inputRight content s ≡ true → s ≡ flatMap (entryBytes true) (given content s)
