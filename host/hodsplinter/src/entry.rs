@@ -86,7 +86,7 @@ impl<'a> Entry<'a> {
     ///
     /// # Panics
     ///
-    /// That the library tells of the bytes of each entry that it gave is proved. Should it not, this panics rather than give others.
+    /// That the library tells own bytes wherever a step reports an entry is proved. Should it not tell them, this panics rather than give others.
     pub fn stored_bytes(&self) -> &'a [u8] {
         match own::bytes(self.file, self.place, self.number) {
             Some(bytes) => bytes,
