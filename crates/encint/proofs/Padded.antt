@@ -12,7 +12,7 @@ use lib.ListN.{length, getD, take, drop, replicate, length-append, length-replic
 use lib.Seq.{getD-drop, take-at}
 use Rattle.fields.proofs.Parts.{part-rest}
 use Rattle.encint.specs.Encint.{rest, encintAt, groups, leading, encoded}
-use Rattle.encint.specs.Padded.{PaddedAt, ReadExact}
+use Rattle.encint.specs.Padded.{padded, PaddedAt, ReadExact}
 use Rattle.encint.specs.declared.Number.{Number}
 use Rattle.encint.specs.declared.Number.the-variants.{Value}
 use Rattle.encint.proofs.Reading.{rest-last, rest-more, bad-no-value, at-number}
@@ -110,6 +110,9 @@ whole v k e =
 
 -- ---- a value at a place
 
+pub length-padded : (k v : ℕ) → length (padded k v) ≡ k + length (encoded v)
+length-padded k v = omega (arith, length-append (replicate k 128) (encoded v), length-replicate {A = ℕ} k 128)
+
 module _ (v : ℕ) (h : v < 2 ^ 63) where
   abbrev g : ℕ
   g = groups 8 (v / 128)
@@ -150,8 +153,7 @@ module _ (s : List ℕ) (at : ℕ) where
       ∙ ap (λ (j : ℕ). leading j (v / 128) (v % 128 ∷ r .behind)) q
       ∙ sym (padded-leading v h k (r .behind))
       ∙ sym (append-assoc (replicate k 128) (encoded v) (r .behind)) in
-      let y : length (replicate k 128 ++ encoded v) ≡ k + length (encoded v) = omega (arith, length-append (replicate k 128) (encoded v), length-replicate {A = ℕ} k 128) in
-      (k, record { small = h; few = omega (arith, r .few); bytes = ap (take (k + length (encoded v))) l ∙ take-at (replicate k 128 ++ encoded v) (r .behind) _ y }, omega (arith, r .next))
+      (k, record { small = h; few = omega (arith, r .few); bytes = ap (take (k + length (encoded v))) l ∙ take-at (padded k v) (r .behind) _ (length-padded k v) }, omega (arith, r .next))
 
   pub read-exact : ((i : ℕ) → getD s i 0 < 256) → ReadExact s at (encintAt s at)
   read-exact b = record { says = padded-encint b; reads = encint-padded }

@@ -4,7 +4,7 @@ use mathlib.Core.Path.{_≡_, sym, ap, ap₂, _∙_}
 use mathlib.Core.List.{List, _++_}
 use Prim.Native.Nat.{ℕ, _+_, _-_, _≤_, _<_}
 use native.Mathlib.Omega.{arith}
-use lib.ListN.{length, getD, replicate, length-append, length-replicate}
+use lib.ListN.{length, getD}
 use Rattle.fields.specs.Part.{part}
 use Rattle.fields.proofs.Parts.{length-part, part-add}
 use Rattle.encint.specs.Encint.{encintAt, encoded}
@@ -16,9 +16,6 @@ use Rattle.entries.specs.Padded.{PaddedEntry}
 use Rattle.entries.specs.declared.Place.{Place}
 use Rattle.entries.specs.declared.Item.the-variants.{Good}
 use Rattle.entries.proofs.Laws.{name-number, listing-apart, listing-inside}
-
-pub length-padded : (k v : ℕ) → length (padded k v) ≡ k + length (encoded v)
-length-padded k v = omega (arith, length-append (replicate k 128) (encoded v), length-replicate {A = ℕ} k 128)
 
 module _ (s : List ℕ) (bytes : (i : ℕ) → getD s i 0 < 256) where
   -- the bytes that a number was read from

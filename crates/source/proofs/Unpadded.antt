@@ -15,12 +15,13 @@ use Rattle.fields.proofs.Tests.{and-both}
 use Rattle.fields.proofs.Parts.{length-part, part-rest}
 use Rattle.encint.specs.Encint.{encoded}
 use Rattle.encint.specs.Padded.{padded}
+use Rattle.encint.proofs.Padded.{length-padded}
 use Rattle.entries.specs.Entry.{listingAt}
 use Rattle.entries.specs.Padded.{PaddedEntry}
 use Rattle.entries.specs.declared.Place.{Place}
 use Rattle.entries.specs.declared.Item.the-variants.{Good}
 use Rattle.entries.proofs.Laws.{listing-inside}
-use Rattle.entries.proofs.Padded.{length-padded, entry-stands}
+use Rattle.entries.proofs.Padded.{entry-stands}
 use Rattle.source.specs.Stored.{Stored, storedOf, entryBytes, unpadded, allUnpadded, rises}
 use Rattle.source.specs.Source.{run, endOf}
 use Rattle.source.specs.Input.{placesOf, given, inputRight}
