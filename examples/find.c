@@ -1,6 +1,6 @@
 /* Looks names up in a book: find BOOK NAME...
 
-   A line a name: the numbers of its entry and the chunks that were opened on the way, or that it is absent, or why it was refused.
+   A line a name: the numbers of its entry, or that it is absent, with the chunks that were opened on the way and how many comparisons it took; or why it was refused.
    The exit status is 0 if every name was found, 1 if not, 2 if there is no book. */
 #define _POSIX_C_SOURCE 200809L
 
@@ -11,10 +11,13 @@
 /* Where in a record the numbers stand that are used here. */
 enum { COUNT = 4, DEPTH = 6, CONTENT = 10 };
 
+/* Where in the answer of a lookup its two counts stand, found or absent. */
+enum { CHUNKS = 0, COMPARISONS = 6 };
+
 /* One name; true if it was found. */
 static int find(const uint8_t *book, size_t len, const uint64_t record[HODS_RECORD], const char *name) {
     uint32_t trail[5];
-    uint64_t entry[6];
+    uint64_t entry[HODS_LOOKUP];
     uint64_t answer = hods_lookup(book, len, record, (const uint8_t *)name, strlen(name), trail, 5, entry);
     if (answer != 0 && answer != 255) {
         refused(name, answer);
@@ -33,8 +36,8 @@ static int find(const uint8_t *book, size_t len, const uint64_t record[HODS_RECO
             printf(", bytes at %" PRIu64, record[CONTENT] + offset);
     }
     printf(", chunks");
-    for (uint64_t i = 0; i < entry[0]; i++) printf(" %" PRIu32, trail[i]);
-    printf("\n");
+    for (uint64_t i = 0; i < entry[CHUNKS]; i++) printf(" %" PRIu32, trail[i]);
+    printf(", %" PRIu64 " comparison%s\n", entry[COMPARISONS], entry[COMPARISONS] == 1 ? "" : "s");
     return answer == 0;
 }
 

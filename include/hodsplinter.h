@@ -11,8 +11,9 @@
 #include <stddef.h>
 #include <stdint.h>
 
-/* How many numbers a record has. */
+/* How many numbers a record has, and how many the answer of hods_lookup. */
 #define HODS_RECORD 11
+#define HODS_LOOKUP 7
 
 #ifdef __cplusplus
 extern "C" {
@@ -25,10 +26,12 @@ uint64_t hods_name_order(const uint8_t *a, size_t a_len, const uint8_t *b, size_
 /* 0 and the book's record, or the refusal. */
 uint64_t hods_open(const uint8_t *file, size_t len, uint64_t record[HODS_RECORD]);
 
-/* 0 found: the answer is the count of chunks, the name's place, its length, section, offset, length. 255 absent: answer[0] is the count of chunks, the
-   rest stays. Else the refusal. The trail, of at least 5 places, gets the numbers of these chunks; later places stay. */
+/* 0 found: the answer is the count of chunks, the name's place, its length, section, offset, length, and the count of comparisons, how often the asked name
+   was compared with one in these chunks. 255 absent: answer[0] and answer[6] are the two counts, the rest stays. Else the refusal. The trail, of at least 5
+   places, gets the numbers of the chunks, at most 5; later places stay. A chunk takes at most h + n comparisons, where n = 1 + 2^density and h is the least
+   whole number with 2^h at least 1 + its quick words. Of the file, only its length and these chunks, up to one that is refused, bear on the answer. */
 uint64_t hods_lookup(const uint8_t *file, size_t len, const uint64_t record[HODS_RECORD], const uint8_t *name, size_t name_len, uint32_t *trail, size_t places,
-                     uint64_t answer[6]);
+                     uint64_t answer[HODS_LOOKUP]);
 
 /* The same search along the chain from the first listing chunk, with no index entry followed and no trail. 0 found: the answer is the name's place, its
    length, section, offset, length. 255 absent or else the refusal, 15 or 17, with nothing changed. On a book that opens, with its record, it answers what

@@ -57,11 +57,16 @@ static double now(void) {
     return (double)t.tv_sec * 1e3 + (double)t.tv_nsec * 1e-6;
 }
 
-static int measured(int argc, char **argv, const char *tool, const struct measure *all, size_t count, void (*ready)(void)) {
+/* The book and the names. */
+static void read_arguments(int argc, char **argv) {
     if (argc < 3) fail("usage: PROGRAM BOOK NAMES [MEASUREMENT]");
     book_path = argv[1];
     book = mapped(book_path, &book_len, MAP_POPULATE);
     read_names(argv[2]);
+}
+
+static int measured(int argc, char **argv, const char *tool, const struct measure *all, size_t count, void (*ready)(void)) {
+    read_arguments(argc, argv);
     ready();
     for (size_t i = 0; i < count; i++) {
         if (argc > 3) {

@@ -1,6 +1,6 @@
 /* Measures opening, full listing by pages and lookups on one book, writing its head anew, and comparing it with itself and with the same book without each 61st
-   name: bench_book FILE LESS. The head must be one that the writer lays out. Times are the best of five rounds, of comparisons the best of fifteen. The
-   status is 1 where a comparison takes longer than its goal allows. */
+   name: bench_book FILE LESS. The head must be one that the writer lays out. Times are the best of five rounds, of comparing two books the best of fifteen. The
+   status is 1 where comparing books takes longer than its goal allows, or a lookup more comparisons of names than docs/FORMAT.md allows (Q12). */
 #include <pthread.h>
 #include <stdint.h>
 #include <stdio.h>
@@ -9,6 +9,7 @@
 #include <time.h>
 
 #include "../include/hodsplinter.h"
+#include "bench_bound.h"
 
 static double now(void) {
     struct timespec t;
@@ -105,6 +106,87 @@ static double list_time(const struct book *book, uint64_t *names, size_t *entrie
 
 static double least(double a, double b) { return a < b ? a : b; }
 
+/* Each 61st name is looked up, and the name with a byte more, which is not there. */
+enum { EVERY = 61 };
+
+/* A name that is not there, by the place and the length of one that is; its length. */
+static size_t beside(const struct book *book, const uint64_t *name, uint8_t other[1025]) {
+    memcpy(other, book->file + name[0], name[1]);
+    other[name[1]] = 1;
+    return name[1] + 1 < 1024 ? name[1] + 1 : name[1];
+}
+
+static uint64_t look_up(const struct book *book, const uint8_t *name, size_t len, uint32_t trail[5], uint64_t answer[HODS_LOOKUP]) {
+    return hods_lookup(book->file, book->len, book->record, name, len, trail, 5, answer);
+}
+
+/* Seconds a lookup of the names that are there. */
+static double hit_time(const struct book *book, const uint64_t *names, size_t entries) {
+    uint32_t trail[5];
+    uint64_t answer[HODS_LOOKUP];
+    size_t asked = 0;
+    double t = now();
+    for (size_t i = 0; i < entries; i += EVERY, asked++)
+        if (look_up(book, book->file + names[2 * i], names[2 * i + 1], trail, answer) != 0) { fprintf(stderr, "not found\n"); exit(1); }
+    return (now() - t) / (double)asked;
+}
+
+/* Seconds a lookup of those that are not. */
+static double miss_time(const struct book *book, const uint64_t *names, size_t entries) {
+    uint32_t trail[5];
+    uint64_t answer[HODS_LOOKUP];
+    uint8_t other[1025];
+    size_t asked = 0;
+    double spent = 0;
+    for (size_t i = 0; i < entries; i += EVERY, asked++) {
+        size_t n = beside(book, names + 2 * i, other);
+        double t = now();
+        uint64_t r = look_up(book, other, n, trail, answer);
+        spent += now() - t;
+        if (r != 255) { fprintf(stderr, "found what is not there\n"); exit(1); }
+    }
+    return spent / (double)asked;
+}
+
+/* What the same lookups take; true where none takes more comparisons than the chunks of its trail allow. */
+static int within_bound(const struct book *book, const uint64_t *names, size_t entries) {
+    struct taken hits = {0}, misses = {0};
+    uint32_t trail[5];
+    uint64_t answer[HODS_LOOKUP];
+    uint8_t other[1025];
+    for (size_t i = 0; i < entries; i += EVERY) {
+        look_up(book, book->file + names[2 * i], names[2 * i + 1], trail, answer);
+        add_lookup(&hits, book->file, book->record, trail, answer);
+        look_up(book, other, beside(book, names + 2 * i, other), trail, answer);
+        add_lookup(&misses, book->file, book->record, trail, answer);
+    }
+    int met = !hits.above && !misses.above;
+    printf("chunks a lookup: %.2f found, %.2f absent\n", each(&hits, hits.chunks), each(&misses, misses.chunks));
+    printf("goal: comparisons a lookup, at most h + n a chunk: %.2f of %.2f found, %.2f of %.2f absent, %s\n", each(&hits, hits.comparisons), each(&hits, hits.most),
+           each(&misses, misses.comparisons), each(&misses, misses.most), met ? "met" : "missed");
+    return met;
+}
+
+/* Opening, listing and lookups; how many entries there are, whose names are kept. */
+static size_t read_best(const struct book *book, uint64_t *names) {
+    double open_best = 1e9, list_best = 1e9, hit_best = 1e9, miss_best = 1e9;
+    size_t entries = 0;
+    for (int round = 0; round < 5; round++) {
+        uint64_t record[HODS_RECORD];
+        double t = now();
+        uint64_t r = hods_open(book->file, book->len, record);
+        open_best = least(open_best, now() - t);
+        if (r) { fprintf(stderr, "refused: %llu\n", (unsigned long long)r); exit(1); }
+        list_best = least(list_best, list_time(book, names, &entries));
+        hit_best = least(hit_best, hit_time(book, names, entries));
+        miss_best = least(miss_best, miss_time(book, names, entries));
+    }
+    printf("%zu bytes, %llu chunks, %zu entries: open %.2f ms, %.0f MB/s; list %.2f ms, %.0f MB/s; lookup %.2f us found, %.2f us absent\n", book->len,
+           (unsigned long long)book->record[4], entries, open_best * 1e3, (double)book->len / open_best / 1e6, list_best * 1e3, (double)book->len / list_best / 1e6,
+           hit_best * 1e6, miss_best * 1e6);
+    return entries;
+}
+
 /* Lists two books and compares them, in turn, so that other work of the machine disturbs both alike. The second has the entries of the first but for so many.
    True where comparing meets its goal, at most 1.5 times listing both. */
 static int compare_best(const char *what, const struct book *one, const struct book *two, size_t missing, uint64_t *names) {
@@ -134,7 +216,7 @@ static struct book the_book, the_less;
 
 static void *call_open(void *x) { hods_open(the_book.file, the_book.len, the_book.record); return x; }
 static void *call_page(void *x) { uint64_t next[2]; hods_chunk(the_book.file, the_book.len, the_book.record, the_book.record[8], page, 4070, next); return x; }
-static void *call_lookup(void *x) { uint32_t trail[5]; uint64_t answer[6]; hods_lookup(the_book.file, the_book.len, the_book.record, (const uint8_t *)"~", 1, trail, 5, answer); return x; }
+static void *call_lookup(void *x) { uint32_t trail[5]; uint64_t answer[HODS_LOOKUP]; hods_lookup(the_book.file, the_book.len, the_book.record, (const uint8_t *)"~", 1, trail, 5, answer); return x; }
 static void *call_scan(void *x) { uint64_t answer[5]; hods_scan(the_book.file, the_book.len, the_book.record, (const uint8_t *)"~", 1, answer); return x; }
 static void *call_opened(void *x) { uint64_t answer[5]; hods_lookup_opened(the_book.file, the_book.len, the_book.record, (const uint8_t *)"~", 1, answer); return x; }
 static void *call_batch(void *x) { uint8_t answers[32]; hods_batch(the_book.file, the_book.len, (const uint8_t *)"\1~", 2, answers, 32); return x; }
@@ -157,66 +239,30 @@ static size_t deepest(void *(*call)(void *)) {
     return SIZE - free_bytes;
 }
 
-int main(int argc, char **argv) {
-    if (argc != 3) { fprintf(stderr, "usage: bench_book FILE LESS\n"); return 2; }
-    /* the book with itself is two copies in memory, as two issues are */
-    struct book copy = read_book(argv[1]);
-    the_book = read_book(argv[1]);
-    the_less = read_book(argv[2]);
-    const uint8_t *file = the_book.file;
-    size_t len = the_book.len;
-    uint64_t record[HODS_RECORD], answer[6];
-    uint32_t trail[5];
-    double open_best = 1e9, list_best = 1e9, hit_best = 1e9, miss_best = 1e9;
-    size_t entries = 0, chunks = 0;
-    uint64_t *names = malloc(2000000 * 2 * sizeof *names);
-    for (int round = 0; round < 5; round++) {
-        double t = now();
-        uint64_t r = hods_open(file, len, record);
-        t = now() - t;
-        if (r) { fprintf(stderr, "refused: %llu\n", (unsigned long long)r); return 1; }
-        if (t < open_best) open_best = t;
-        t = now();
-        entries = list_all(file, len, record, names, 2000000);
-        t = now() - t;
-        if (t < list_best) list_best = t;
-        size_t asked = 0;
-        chunks = 0;
-        t = now();
-        for (size_t i = 0; i < entries; i += 61, asked++) {
-            if (hods_lookup(file, len, record, file + names[2 * i], names[2 * i + 1], trail, 5, answer) != 0) { fprintf(stderr, "not found\n"); return 1; }
-            chunks += answer[0];
-        }
-        t = (now() - t) / (double)asked;
-        if (t < hit_best) hit_best = t;
-        uint8_t other[1025];
-        double spent = 0;
-        for (size_t i = 0; i < entries; i += 61) {
-            size_t n = names[2 * i + 1];
-            memcpy(other, file + names[2 * i], n);
-            other[n] = 1;
-            double u = now();
-            uint64_t a = hods_lookup(file, len, record, other, n + 1 < 1024 ? n + 1 : n, trail, 5, answer);
-            spent += now() - u;
-            if (a != 255) { fprintf(stderr, "found what is not there\n"); return 1; }
-        }
-        spent /= (double)asked;
-        if (spent < miss_best) miss_best = spent;
-        chunks = chunks * 100 / asked;
-    }
-    printf("%zu bytes, %llu chunks, %zu entries: open %.2f ms, %.0f MB/s; list %.2f ms, %.0f MB/s; lookup %.2f us found, %.2f us absent, %.2f chunks\n", len,
-           (unsigned long long)record[4], entries, open_best * 1e3, (double)len / open_best / 1e6, list_best * 1e3, (double)len / list_best / 1e6, hit_best * 1e6,
-           miss_best * 1e6, (double)chunks / 100);
-    double write_time = write_best(file, len, record);
-    printf("write the head, %llu bytes, from %zu bytes of entries: %.2f ms, %.0f MB/s\n", (unsigned long long)record[10], the_size, write_time * 1e3,
-           (double)record[10] / write_time / 1e6);
-    int met = compare_best("itself", &the_book, &copy, 0, names);
-    met &= compare_best("one that lacks each 61st name", &the_book, &the_less, entries / 61, names);
+static void print_stack(void) {
     size_t idle = deepest(call_nothing);
     size_t open_stack = deepest(call_open) - idle, page_stack = deepest(call_page) - idle, lookup_stack = deepest(call_lookup) - idle;
     size_t scan_stack = deepest(call_scan) - idle, opened_stack = deepest(call_opened) - idle, batch_stack = deepest(call_batch) - idle;
     size_t compare_stack = deepest(call_compare) - idle, write_stack = deepest(call_write) - idle;
     printf("peak stack: open %zu bytes, page %zu bytes, lookup %zu bytes, scan %zu bytes, lookup in an opened book %zu bytes, batch %zu bytes, compare %zu bytes, write %zu bytes\n",
            open_stack, page_stack, lookup_stack, scan_stack, opened_stack, batch_stack, compare_stack, write_stack);
+}
+
+int main(int argc, char **argv) {
+    if (argc != 3) { fprintf(stderr, "usage: bench_book FILE LESS\n"); return 2; }
+    /* the book with itself is two copies in memory, as two issues are */
+    struct book copy = read_book(argv[1]);
+    the_book = read_book(argv[1]);
+    the_less = read_book(argv[2]);
+    const uint64_t *record = the_book.record;
+    uint64_t *names = malloc(2000000 * 2 * sizeof *names);
+    size_t entries = read_best(&the_book, names);
+    int met = within_bound(&the_book, names, entries);
+    double write_time = write_best(the_book.file, the_book.len, record);
+    printf("write the head, %llu bytes, from %zu bytes of entries: %.2f ms, %.0f MB/s\n", (unsigned long long)record[10], the_size, write_time * 1e3,
+           (double)record[10] / write_time / 1e6);
+    met &= compare_best("itself", &the_book, &copy, 0, names);
+    met &= compare_best("one that lacks each 61st name", &the_book, &the_less, entries / EVERY, names);
+    print_stack();
     return !met;
 }

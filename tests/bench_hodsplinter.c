@@ -1,7 +1,9 @@
-/* Measures this library. The book is lent as mapped bytes. */
+/* Measures this library. The book is lent as mapped bytes. With a third argument `comparisons` it times nothing and prints two lines, for the names that are there and for the others:
+   the comparisons that a lookup takes, the most that it may take, both as means, and how many lookups took more. */
 #include "bench.h"
 
 #include "../include/hodsplinter.h"
+#include "bench_bound.h"
 
 static uint64_t record[HODS_RECORD], less_record[HODS_RECORD], page[4070];
 static uint8_t *entries, *head, *names, *answers, *less;
@@ -86,7 +88,7 @@ void measure_open_path(void) {
 
 void measure_find_hit(void) {
     uint32_t trail[5];
-    uint64_t answer[6];
+    uint64_t answer[HODS_LOOKUP];
     for (size_t i = 0; i < there_count; i++) {
         if (hods_lookup(book, book_len, record, (const uint8_t *)there[i].text, there[i].len, trail, 5, answer) != 0) fail("not found");
         kept += answer[4];
@@ -95,7 +97,7 @@ void measure_find_hit(void) {
 
 void measure_find_miss(void) {
     uint32_t trail[5];
-    uint64_t answer[6];
+    uint64_t answer[HODS_LOOKUP];
     for (size_t i = 0; i < missing_count; i++)
         if (hods_lookup(book, book_len, record, (const uint8_t *)missing[i].text, missing[i].len, trail, 5, answer) != 255) fail("found");
 }
@@ -156,7 +158,27 @@ void measure_compare_less(void) { compare(less, less_len, less_record); }
 
 void measure_write(void) { kept += write_head(entries, entries_len, head); }
 
+static void print_taken(const char *what, uint64_t code, const struct name *asked, size_t count) {
+    struct taken sum = {0};
+    uint32_t trail[5];
+    uint64_t answer[HODS_LOOKUP];
+    for (size_t i = 0; i < count; i++) {
+        if (hods_lookup(book, book_len, record, (const uint8_t *)asked[i].text, asked[i].len, trail, 5, answer) != code) fail(what);
+        add_lookup(&sum, book, record, trail, answer);
+    }
+    printf("%s %.2f %.2f %llu\n", what, each(&sum, sum.comparisons), each(&sum, sum.most), (unsigned long long)sum.above);
+}
+
+static int comparisons(int argc, char **argv) {
+    read_arguments(argc, argv);
+    if (hods_open(book, book_len, record)) fail("refused");
+    print_taken("found", 0, there, there_count);
+    print_taken("absent", 255, missing, missing_count);
+    return 0;
+}
+
 int main(int argc, char **argv) {
+    if (argc == 4 && !strcmp(argv[3], "comparisons")) return comparisons(argc, argv);
     static const struct measure all[] = {{"open", measure_open}, {"open_path", measure_open_path}, {"find_hit", measure_find_hit}, {"find_miss", measure_find_miss},
                                          {"opened_hit", measure_opened_hit}, {"opened_miss", measure_opened_miss}, {"batch", measure_batch},
                                          {"scan", measure_scan}, {"list", measure_list}, {"compare", measure_compare},

@@ -7,7 +7,7 @@ code with the library. One chunk by itself is judged by chunks.py.
   opened                         the record of a book, or why it is refused
   step, walk, listing            the entries, by the cursor
   owned                          the entries with their own bytes, by the chain
-  lookup                         the descent for a name
+  descend, lookup, comparisons   the descent for a name
   batch                          many names at once
   lent                           a part of the book
   frames                         what the program `list` prints
@@ -22,8 +22,8 @@ from functools import lru_cache
 from zlib import crc32
 
 from chunks import (CHUNK, HEADER, INDEX, LISTING, NONE, build_index, build_listing, choose,
-                    compare, decode, find, fold, index_entry, listing_entry, nth, padded, quick_count,
-                    verdict)
+                    compare, compared, decode, find, fold, index_entry, listing_entry, nth, padded,
+                    quick_count, verdict)
 
 RECORD = ('version', 'time', 'language', 'directory_start', 'count', 'density', 'depth',
           'root', 'first', 'last', 'content_start')
@@ -262,6 +262,19 @@ def owned(data, record):
     return out
 
 
+def descend(data, record, name):
+    """The numbers of the chunks that a descent comes to, and the verdict on
+    the last of them, None where that one is refused."""
+    trail, number = [], record['first' if record['depth'] == 1 else 'root']
+    for level in range(record['depth'], 0, -1):
+        part = meet(data, record, number, 'listing' if level == 1 else 'index')
+        trail.append(number)
+        entry = choose(part[1], name) if part and level > 1 else None
+        if entry is None:
+            return trail, part
+        number = entry[3]
+
+
 def lookup(data, record, name, places=5):
     """('found', report, trail), ('absent', trail), or the refusal; `places` is
     the length of the lent trail."""
@@ -272,22 +285,17 @@ def lookup(data, record, name, places=5):
         return refused(16)
     if not fits(data, record):
         return refused(17)
-    trail, number = [], record['first' if record['depth'] == 1 else 'root']
-    for level in range(record['depth'], 1, -1):
-        part = meet(data, record, number, 'index')
-        if part is None:
-            return refused(17)
-        trail.append(number)
-        entry = choose(part[1], name)
-        if entry is None:
-            return 'absent', trail
-        number = entry[3]
-    part = meet(data, record, number, 'listing')
+    trail, part = descend(data, record, name)
     if part is None:
         return refused(17)
-    trail.append(number)
-    entry = find(part[3], name)
-    return ('found', report(record, number, entry), trail) if entry else ('absent', trail)
+    entry = find(part[3], name) if part[0] == 'listing' else None
+    return ('found', report(record, trail[-1], entry), trail) if entry else ('absent', trail)
+
+
+def comparisons(data, record, name, trail):
+    """How many comparisons of the name a lookup makes in the chunks of its
+    trail (K26)."""
+    return sum(len(compared(chunk_at(data, record, number)[-1], record['density'], name)) for number in trail)
 
 
 def lined_up(names, pad=0):

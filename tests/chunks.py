@@ -1,7 +1,7 @@
 """A model of one directory chunk by itself, independent of the library.
 
-It follows docs/FORMAT.md (Numbers, Names, Chunk, Entries, refusals 8 to 12)
-with plain lists and unbounded numbers, and shares no code with the library.
+It follows docs/FORMAT.md (Numbers, Names, Chunk, Entries, refusals 8 to 12, Q8
+to Q12) with plain lists and unbounded numbers, and shares no code with the library.
 
   encode, decode, padded         ENCINTs
   compare                        the order of names
@@ -9,6 +9,8 @@ with plain lists and unbounded numbers, and shares no code with the library.
   build_listing, build_index     the bytes of one chunk, good or damaged
   verdict                        what a chunk is, or why it is refused
   find, choose, nth              questions to the entries of a good chunk
+  compared, most_compared        the names that a search in them compares, and
+                                 the most that it may
 """
 
 CHUNK = 4096
@@ -248,6 +250,35 @@ def nth(entries, k):
     return entries[k] if 0 <= k < len(entries) else None
 
 
+def grouped(entries, density):
+    """The entries in their groups (Q8), n in each but the last."""
+    n = 1 + 2 ** density
+    return [entries[i:i + n] for i in range(0, len(entries), n)]
+
+
+def compared(entries, density, name):
+    """The names that the asked one is compared with, in turn (Q9, Q10): each
+    as often as it is compared."""
+    left, met = grouped(entries, density), []
+    while len(left) > 1:
+        middle = len(left) // 2
+        met.append(left[middle][0][2])
+        left = left[:middle] if compare(met[-1], name) > 0 else left[middle:]
+    for entry in left[0]:
+        met.append(entry[2])
+        if compare(met[-1], name) >= 0:
+            break
+    return met
+
+
+def most_compared(c, density):
+    """The most names that a search compares in a chunk of c entries (Q12)."""
+    h, n = 0, 1 + 2 ** density
+    while 2 ** h < 1 + quick_count(c, density):
+        h += 1
+    return h + n
+
+
 # Self-test: known values and random chunks
 
 def _known_numbers():
@@ -267,10 +298,26 @@ def _known_numbers():
     assert padded(128, 9) == h('80' * 7 + '8100') and padded(2 ** 63 - 1, 1) == encode(2 ** 63 - 1)
 
 
+def _known_comparisons():
+    """Q8 to Q12 by hand, at density 2: /b to /l in the groups b to f, g to k, l."""
+    entries = [(0, 0, b'/%c' % letter, 0) for letter in b'bcdefghijkl']
+    assert [[e[2] for e in group] for group in grouped(entries, 2)] == [[b'/b', b'/c', b'/d', b'/e', b'/f'], [b'/g', b'/h', b'/i', b'/j', b'/k'], [b'/l']]
+    for name, letters in ((b'/a', 'gb'), (b'/b', 'gb'), (b'/B', 'gb'), (b'/d', 'gbcd'), (b'/c!', 'gbcd'), (b'/f', 'gbcdef'), (b'/f!', 'gbcdef'),
+                          (b'/g', 'glg'), (b'/k', 'glghijk'), (b'/k!', 'glghijk'), (b'/l', 'gll'), (b'/z', 'gll')):
+        assert compared(entries, 2, name) == [b'/%c' % ord(letter) for letter in letters], name
+    # as one group, and as groups of two: bc, de, fg, hi, jk, l
+    assert compared(entries, 7, b'/d!') == [b'/b', b'/c', b'/d', b'/e']
+    assert compared(entries, 0, b'/g') == [b'/h', b'/d', b'/f', b'/f', b'/g']
+    assert compared(entries, 0, b'/m') == [b'/h', b'/j', b'/l', b'/l']
+    assert [most_compared(c, 2) for c in (1, 5, 6, 10, 11, 20, 21, 40, 41)] == [5, 5, 6, 6, 7, 7, 8, 8, 9]
+    assert [most_compared(c, d) for c, d in ((1, 0), (2, 0), (3, 0), (1, 7), (130, 7))] == [2, 2, 3, 129, 130]
+
+
 def _self_test(rounds=3000, seed=7):
     import random
     r = random.Random(seed)
     _known_numbers()
+    _known_comparisons()
     assert compare(b'/A', b'/a') == 0 and compare(b'/a', b'/a.htm') == -1
     assert compare(b'/[', b'/Z') == -1 and compare(b'/Z', b'/[') == 1
     assert [quick_count(c, 2) for c in (1, 5, 6, 10, 11, 16)] == [0, 0, 1, 1, 2, 3]
@@ -309,6 +356,13 @@ def _self_test(rounds=3000, seed=7):
         s = r.choice(kept)
         assert find(entries, s.swapcase())[2] == s and choose(entries, s)[2] == s
         assert nth(entries, len(entries)) is None and nth(entries, 0) == entries[0]
+        for name in (s, (s + b'\0')[:1024], s[:-1] or b'\0'):
+            met = compared(entries, density, name)
+            assert len(met) <= most_compared(len(entries), density)
+            # what is sought stands among the names that were compared, last if it is the name itself
+            assert find(entries, name) is None or met[-1] == find(entries, name)[2]
+            chosen = choose(entries, name)
+            assert max((m for m in met if compare(m, name) <= 0), key=lambda m: bytes(map(fold, m)), default=None) == (chosen and chosen[2])
         hurt = bytearray(chunk)
         for _ in range(r.randint(1, 3)):
             hurt[r.choice((r.randrange(24), r.randrange(4096), 4095 - r.randrange(12)))] = r.randrange(256)

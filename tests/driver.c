@@ -1,6 +1,6 @@
 /* Asks the library what its standard input says, a line a question, and answers a line each: driver FILE.
      o                               open: the code, and the record for 0
-     l RECORD PLACES HEXNAME         lookup with a record and a trail of so many places, all 77 before: the code, six numbers all 88 before, the trail
+     l RECORD PLACES HEXNAME         lookup with a record and a trail of so many places, all 77 before: the code, seven numbers all 88 before, the trail
      f RECORD HEXNAME                lookup in an opened book, with a record: the code, five numbers all 88 before
      c RECORD HEXNAME                scan with a record: the code, five numbers all 88 before
      m ROOM HEXNAMES                 batch of names with their lengths into so many bytes: the code, in hexadecimal these bytes and 64 behind them, all 77 before
@@ -61,12 +61,13 @@ static void ask_open(void) {
 
 static void ask_lookup(void) {
     uint32_t trail[16];
-    uint64_t answer[6] = {88, 88, 88, 88, 88, 88};
+    uint64_t answer[HODS_LOOKUP];
     size_t places = (size_t)number(), n;
     for (int i = 0; i < 16; i++) trail[i] = 77;
+    for (int i = 0; i < HODS_LOOKUP; i++) answer[i] = 88;
     uint8_t *name = bytes_in(&n);
     printf("%" PRIu64, hods_lookup(file, len, record, name, n, trail, places, answer));
-    show(answer, 6);
+    show(answer, HODS_LOOKUP);
     for (size_t i = 0; i < places; i++) printf(" %" PRIu32, trail[i]);
     free(name);
 }

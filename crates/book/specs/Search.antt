@@ -1,15 +1,17 @@
--- What the search for a name in one listing chunk comes to, in a file read by any record, and what a report of a name that was found is worth.
+-- What the search for a name in one chunk comes to, in a file read by any record, with how many names it compares, and what a report of a name that was
+-- found is worth.
 -- Assumes nothing.
 use mathlib.Core.Path.{_≡_}
-use mathlib.Core.Bool.{true, cond}
+use mathlib.Core.Bool.{true, false, cond}
 use mathlib.Core.List.{List}
 use Prim.Native.Nat.{ℕ, _+_, _≤_}
 use lib.ListN.{length}
 use Rattle.fields.specs.Part.{part}
-use Rattle.names.specs.Names.{matches}
-use Rattle.chunk.specs.Chunk.{entriesIn}
+use Rattle.names.specs.Names.{compared, matches}
+use Rattle.chunk.specs.Chunk.{spacingOf, entriesIn}
 use Rattle.seek.specs.Seek.{Sought, lookup, findIn, chooseIn, childOf}
-use Rattle.seek.specs.declared.Child.{Child}
+use Rattle.seek.specs.Count.{comparisons, costIn}
+use Rattle.seek.specs.declared.CountedChild.{CountedChild}
 use Rattle.seek.specs.declared.Hit.{Hit}
 use Rattle.seek.specs.declared.Hit.the-variants.{At}
 use Rattle.header.specs.declared.Record.{Record}
@@ -22,30 +24,40 @@ use Rattle.book.specs.declared.Search.the-variants.{Found, Next, Barred}
 
 -- ---- in the bytes of chunk c, checked or not (K22)
 
-abbrev pub findingOf : List ℕ → Record → ℕ → Hit → Finding
-findingOf s book c (At e) = Finding.Found (reportAt s book c e)
-findingOf s book c Hit.Nothing = Finding.Nothing
+-- n is how many names were compared
+abbrev pub findingOf : List ℕ → Record → ℕ → ℕ → Hit → Finding
+findingOf s book c n (At e) = Finding.Found n (reportAt s book c e)
+findingOf s book c n Hit.Nothing = Finding.Nothing n
 
 -- the entry of a listing chunk whose name compares equal
 unfoldable pub findingIn : List ℕ → Record → List ℕ → ℕ → Finding
-findingIn s book name c = findingOf s book c (findIn (limitsOf s book) (chunkBytes s book c) name)
+findingIn s book name c =
+    findingOf s book c (costIn (limitsOf s book) true (chunkBytes s book c) (compared name)) (findIn (limitsOf s book) (chunkBytes s book c) (compared name))
 
 -- where an index chunk leads
-unfoldable pub childIn : List ℕ → Record → List ℕ → ℕ → Child
-childIn s book name c = childOf (chooseIn (limitsOf s book) (chunkBytes s book c) name)
+unfoldable pub childIn : List ℕ → Record → List ℕ → ℕ → CountedChild
+childIn s book name c =
+    record {
+      child = childOf (chooseIn (limitsOf s book) (chunkBytes s book c) (compared name));
+      count = costIn (limitsOf s book) false (chunkBytes s book c) (compared name);
+    }
 
--- ---- in a listing chunk
+-- ---- in a chunk that passes its check
 
--- the entry of chunk c that holds the name (Q5, K6), or the number of the chunk's next
-abbrev pub searchOf : Record → ℕ → ℕ → Sought → Search
-searchOf book c next (Sought.found e) = Found (reportOf book c e)
-searchOf book c next Sought.absent = Next next
+-- how many names are compared in chunk c (Q11)
+abbrev pub costAt : List ℕ → Record → List ℕ → ℕ → ℕ
+costAt s book name c = comparisons (spacingOf (book .density)) (compared name) (entriesIn (directoryOf s book c))
+
+-- the entry of listing chunk c that holds the name (Q5, K6), or the number of the chunk's next; n is how many names were compared
+abbrev pub searchOf : Record → ℕ → ℕ → ℕ → Sought → Search
+searchOf book c next n (Sought.found e) = Found n (reportOf book c e)
+searchOf book c next n Sought.absent = Next n next
 
 -- in chunk c; `Barred` where it is no listing chunk below the count (K13)
 unfoldable pub searchIn : List ℕ → Record → List ℕ → ℕ → Search
 searchIn s book name c =
     cond (listingChunk (directoryOf s book) (shapeOf book) c)
-    (searchOf book c (nextOf (directoryOf s book c)) (lookup name (entriesIn (directoryOf s book c))))
+    (searchOf book c (nextOf (directoryOf s book c)) (costAt s book name c) (lookup name (entriesIn (directoryOf s book c))))
     Barred
 
 -- ---- what a report is worth

@@ -10,7 +10,7 @@ use chunk::Chunk;
 use entries::Limits;
 use entries::Place;
 use header::Record;
-use seek::Child;
+use seek::CountedChild;
 use seek::Hit;
 
 // A refusal's number, and the chunk that it belongs to: FFFFFFFF where it belongs to none.
@@ -34,16 +34,17 @@ pub struct Own {
     pub length: u64,
 }
 
-// What the search in the bytes of a chunk comes to.
+// What the search in the bytes of a chunk comes to; the number in front is how many names were compared with the asked one.
 pub enum Finding {
-    Found(Report),
-    Nothing,
+    Found(u32, Report),
+    Nothing(u32),
 }
 
-// What the search for a name in one listing chunk comes to: its entry, or the number of the chunk's next; `Barred` where there is no listing chunk.
+// What the search for a name in one listing chunk comes to: its entry, or the number of the chunk's next; the number in front is how many names were
+// compared. `Barred` where there is no listing chunk.
 pub enum Search {
-    Found(Report),
-    Next(u32),
+    Found(u32, Report),
+    Next(u32, u32),
     Barred,
 }
 
@@ -203,14 +204,16 @@ pub fn own_of(file: &[u8], book: Record, c: u64, e: Place) -> Own
 pub fn find_in(file: &[u8], book: Record, name: &[u8], c: u64) -> Finding
     ensures { λ r. ⌜ r ≡ findingIn (now (file .entry)) book (now (name .entry)) c ⌝ }
 {
-    match seek::find(chunk_bytes(file, book, c), limits(file, book), name) {
-        Hit::At(e) => Finding::Found(report_of(file, book, c, e)),
-        Hit::Nothing => Finding::Nothing,
+    let found = seek::find(chunk_bytes(file, book, c), limits(file, book), name);
+    let hit = found.hit;
+    match hit {
+        Hit::At(e) => Finding::Found(found.count, report_of(file, book, c, e)),
+        Hit::Nothing => Finding::Nothing(found.count),
     }
 }
 
 // Where the bytes of chunk c, as those of an index chunk, lead for a name.
-pub fn child_in(file: &[u8], book: Record, name: &[u8], c: u64) -> Child
+pub fn child_in(file: &[u8], book: Record, name: &[u8], c: u64) -> CountedChild
     ensures { λ r. ⌜ r ≡ childIn (now (file .entry)) book (now (name .entry)) c ⌝ }
 {
     seek::choose(chunk_bytes(file, book, c), limits(file, book), name)
@@ -224,7 +227,7 @@ pub fn search_in(file: &[u8], book: Record, name: &[u8], c: u64) -> Search
         return Search::Barred;
     };
     match find_in(file, book, name, c) {
-        Finding::Found(x) => Search::Found(x),
-        Finding::Nothing => Search::Next(next),
+        Finding::Found(count, x) => Search::Found(count, x),
+        Finding::Nothing(spent) => Search::Next(spent, next),
     }
 }

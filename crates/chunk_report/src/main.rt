@@ -32,9 +32,13 @@ fn child(d: Child) {
 
 fn sought(c: &[u8], limits: Limits, listing: bool, name: &[u8]) {
     if listing {
-        place(seek::find(c, limits, name));
+        let found = seek::find(c, limits, name);
+        let hit = found.hit;
+        place(hit);
     } else {
-        child(seek::choose(c, limits, name));
+        let chosen = seek::choose(c, limits, name);
+        let below = chosen.child;
+        child(below);
     }
 }
 

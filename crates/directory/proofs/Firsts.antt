@@ -15,11 +15,10 @@ use Rattle.entries.specs.declared.Item.the-variants.{Good, Bad}
 use Rattle.entries.proofs.Laws.{item-inside}
 use Rattle.chunk.specs.Chunk.{Entry, tagOf, withItem, entryOf, headOf, countOf, tailOf, spacingOf, parsed, entriesIn, isKind}
 use Rattle.chunk.proofs.Accepted.{accepted, entries-count}
-use Rattle.seek.specs.Seek.{Sought, absent, found, nth, final, soughtOf, afterAt, groupAt, nthIn, firstIn, lastIn}
+use Rattle.seek.specs.Seek.{Sought, absent, found, nth, nameIn, final, soughtOf, afterAt, groupAt, nthIn, firstIn, lastIn}
 use Rattle.seek.specs.declared.Hit.{Hit}
 use Rattle.seek.specs.declared.Hit.the-variants.{At, Nothing}
 use Rattle.seek.proofs.Good.{nth-good, last-good}
-use Rattle.tree.specs.Shape.{nameIn}
 use Rattle.header.specs.declared.Record.{Record}
 use Rattle.book.specs.Book.{limitsOf, chunkBytes, directoryOf}
 use Rattle.directory.specs.Passes.{GoodBook, FirstHit}

@@ -7,7 +7,7 @@ use mathlib.Core.Bool.{Bool, true, false, cond}
 use mathlib.Core.List.{List}
 use Prim.Native.Nat.{ℕ, zero, suc}
 use native.Mathlib.Omega.{arith}
-use Rattle.names.specs.Names.{askable}
+use Rattle.names.specs.Names.{askable, compared}
 use Rattle.seek.specs.Seek.{Sought, soughtOf, findIn, chooseIn}
 use Rattle.seek.specs.declared.Hit.{Hit}
 use Rattle.seek.specs.declared.Hit.the-variants.{At, Nothing}
@@ -30,15 +30,15 @@ module _ (s : List ℕ) (book : Record) (name : List ℕ) where
   Worth absent = Unit {0}
   Worth refused = ⊥
 
-  hit-stands : (c : ℕ) (x : Hit) → findIn (limitsOf s book) (chunkBytes s book c) name ≡ x → Worth (answer c (soughtOf (chunkBytes s book c) x))
+  hit-stands : (c : ℕ) (x : Hit) → findIn (limitsOf s book) (chunkBytes s book c) (compared name) ≡ x → Worth (answer c (soughtOf (chunkBytes s book c) x))
   hit-stands c Nothing q = tt
   hit-stands c (At e) q = rw (← found-report s book name c e q) (found-stands s book name c e q)
 
   fetch-stands : (l c : ℕ) → Worth (fetchAt s book name l c)
   unfolding fetchFrom
   fetch-stands zero c = tt
-  fetch-stands (suc zero) c = hit-stands c (findIn (limitsOf s book) (chunkBytes s book c) name) refl
-  fetch-stands (suc (suc l)) c = go (soughtOf (chunkBytes s book c) (chooseIn (limitsOf s book) (chunkBytes s book c) name)) (λ k. fetch-stands (suc l) k)
+  fetch-stands (suc zero) c = hit-stands c (findIn (limitsOf s book) (chunkBytes s book c) (compared name)) refl
+  fetch-stands (suc (suc l)) c = go (soughtOf (chunkBytes s book c) (chooseIn (limitsOf s book) (chunkBytes s book c) (compared name))) (λ k. fetch-stands (suc l) k)
     where
       go : (x : Sought) → ((k : ℕ) → Worth (fetchAt s book name (suc l) k)) → Worth (onward x absent (λ k. fetchAt s book name (suc l) k))
       go Sought.absent f = tt

@@ -13,8 +13,8 @@ fn fetch_leaf(file: &[u8], book: Record, name: &[u8], c: u64) -> Reply
     ensures { λ r. ⌜ r ≡ replyTo book (fetchAt (now (file .entry)) book (now (name .entry)) 1 c) ⌝ }
 {
     match book::find_in(file, book, name, c) {
-        Finding::Found(x) => Reply::Found(x),
-        Finding::Nothing => Reply::Absent,
+        Finding::Found(_, x) => Reply::Found(x),
+        Finding::Nothing(_) => Reply::Absent,
     }
 }
 
@@ -26,10 +26,12 @@ fn fetch_from(file: &[u8], book: Record, name: &[u8], level: u64, c: u64) -> Rep
     let mut at = c;
     let mut left = level;
     while 1 < left {
-        let Child::Below(child) = book::child_in(file, book, name, at) else {
+        let chosen = book::child_in(file, book, name, at);
+        let child = chosen.child;
+        let Child::Below(below) = child else {
             return Reply::Absent;
         };
-        at = child;
+        at = below;
         left -= 1;
     }
     fetch_leaf(file, book, name, at)

@@ -13,7 +13,7 @@ use Rattle.lookup.specs.declared.Reply.{Reply}
 use Rattle.hodsplinter.specs.Numbers.{lookupCode, replyCode, replyNumbers}
 
 reply-code : (x : Answer) → replyCode (replyOf x) ≡ lookupCode x
-reply-code (Answer.Found x n) = refl
+reply-code (Answer.Found n x) = refl
 reply-code (Answer.Absent n) = refl
 reply-code (Answer.Refused x) = refl
 

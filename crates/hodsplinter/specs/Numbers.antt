@@ -1,7 +1,7 @@
 -- Records, refusals and answers as numbers for C.
 -- Assumes nothing.
 use Prim.Native.Nat.{ℕ, _+_, _*_}
-use mathlib.Core.List.{List, [], _∷_}
+use mathlib.Core.List.{List, [], _∷_, _++_}
 use lib.ListN.{length, getD, set}
 use Rattle.fields.specs.Part.{partOf}
 use Rattle.header.specs.declared.Record.{Record}
@@ -61,16 +61,16 @@ abbrev pub openRecord : Opened → List ℕ → List ℕ
 openRecord (Book r) was = numbersOf r
 openRecord (Opened.Refused x) was = was
 
--- ---- lookup: 0 and six numbers, 255 and the count alone, or the refusal with nothing changed
+-- ---- lookup: 0 and seven numbers, 255 and the two counts alone, or the refusal with nothing changed
 
 abbrev pub lookupCode : Answer → ℕ
-lookupCode (Found x n) = 0
+lookupCode (Found n x) = 0
 lookupCode (Absent n) = 255
 lookupCode (Answer.Refused x) = refusalCode x
 
 abbrev pub lookupNumbers : Answer → List ℕ → List ℕ
-lookupNumbers (Found x n) was = n ∷ fiveOf x
-lookupNumbers (Absent n) was = set was 0 n
+lookupNumbers (Found n x) was = n .chunks ∷ (fiveOf x ++ (n .comparisons ∷ []))
+lookupNumbers (Absent n) was = set (set was 0 (n .chunks)) 6 (n .comparisons)
 lookupNumbers (Answer.Refused x) was = was
 
 -- ---- a search that leaves no trail: 0 and five numbers; 255, or the refusal, with nothing changed

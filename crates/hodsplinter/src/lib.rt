@@ -104,27 +104,36 @@ pub extern "C" fn hods_open(file: &[u8], record: &mut Numbers) -> u64
     }
 }
 
-// Looks a name up: 0 found (count of chunks, name's place, name's length, section, offset, length), 255 absent (the count alone), or the refusal with
-// nothing changed. The trail gets the chunks of the descent.
+// Looks a name up: 0 found (count of chunks, name's place, name's length, section, offset, length, count of comparisons), 255 absent (the two counts
+// alone), or the refusal with nothing changed. The trail gets the chunks of the descent.
 #[no_mangle]
 pub extern "C" fn hods_lookup(
     file: &[u8],
     record: &Numbers,
     name: &[u8],
     trail: &mut [u32],
-    answer: &mut [u64; 6],
+    answer: &mut [u64; 7],
 ) -> u64
     ensures answer { λ r. ⌜ r ≡ lookupCode (lookedUp (now (file .entry)) (recordIn (now («record» .entry))) (now (name .entry)) (length (now (trail .entry)))) ⌝ }
     ensures trail { λ _. ⌜ now (trail .exit) ≡ trailAfter (now (file .entry)) (recordIn (now («record» .entry))) (now (name .entry)) (now (trail .entry)) ⌝ }
     ensures numbers { λ _. ⌜ now (answer .exit) ≡ lookupNumbers (lookedUp (now (file .entry)) (recordIn (now («record» .entry))) (now (name .entry)) (length (now (trail .entry)))) (now (answer .entry)) ⌝ }
 {
     match lookup::lookup(file, record_in(record), name, trail) {
-        Answer::Found(x, n) => {
-            *answer = [n as u64, x.place, x.length, x.section, x.offset, x.size];
+        Answer::Found(n, x) => {
+            *answer = [
+                n.chunks as u64,
+                x.place,
+                x.length,
+                x.section,
+                x.offset,
+                x.size,
+                n.comparisons as u64,
+            ];
             0
         }
-        Answer::Absent(n) => {
-            answer[0] = n as u64;
+        Answer::Absent(spent) => {
+            answer[0] = spent.chunks as u64;
+            answer[6] = spent.comparisons as u64;
             255
         }
         Answer::Refused(r) => code(r),

@@ -22,8 +22,9 @@ use Rattle.book.specs.declared.Report.{Report}
 use Rattle.book.specs.declared.Refusal.{Refusal}
 use Rattle.directory.specs.Opened.{opened}
 use Rattle.directory.specs.declared.Opened.the-variants.{Book}
-use Rattle.lookup.specs.Lookup.{outcomeIn, trailIn, countIn, answerOf, unless, lookedUp, trailAfter}
+use Rattle.lookup.specs.Lookup.{outcomeIn, trailIn, countIn, effortIn, answerOf, unless, lookedUp, trailAfter}
 use Rattle.lookup.specs.Complete.{Complete}
+use Rattle.lookup.specs.declared.Effort.{Effort}
 use Rattle.lookup.specs.declared.Answer.{Answer}
 use Rattle.lookup.specs.declared.Answer.the-variants.{Found, Absent, Refused}
 use Rattle.directory.proofs.Accepted.{OpenedBook, opened-book}
@@ -31,23 +32,23 @@ use Rattle.lookup.proofs.Trail.{sets-front}
 
 -- ---- what an answer tells of the outcome that it is for
 
-found-of : (book : Record) (n : ℕ) (o : Outcome) (x : Report) (m : ℕ) → answerOf book n o ≡ Found x m → (c : ℕ) × (e : Entry) × (o ≡ found c e) × (x ≡ reportOf book c e)
+found-of : (book : Record) (n : Effort) (o : Outcome) (x : Report) (m : Effort) → answerOf book n o ≡ Found m x → (c : ℕ) × (e : Entry) × (o ≡ found c e) × (x ≡ reportOf book c e)
 found-of book n (found c e) x m q = (c, e, refl, cc)
 found-of book n absent x m q = never (cc)
 found-of book n refused x m q = never (cc)
 
-absent-of : (book : Record) (n : ℕ) (o : Outcome) → answerOf book n o ≡ Absent n → o ≡ absent
+absent-of : (book : Record) (n : Effort) (o : Outcome) → answerOf book n o ≡ Absent n → o ≡ absent
 absent-of book n (found c e) q = never (cc)
 absent-of book n absent q = refl
 absent-of book n refused q = never (cc)
 
-refused-of : (book : Record) (n : ℕ) (o : Outcome) (x : Refusal) → answerOf book n o ≡ Refused x → o ≡ refused
+refused-of : (book : Record) (n : Effort) (o : Outcome) (x : Refusal) → answerOf book n o ≡ Refused x → o ≡ refused
 refused-of book n (found c e) x q = never (cc)
 refused-of book n absent x q = never (cc)
 refused-of book n refused x q = refl
 
 changed : (r : Answer) (was is : List ℕ) → ((x : Refusal) → r ≢ Refused x) → unless r was is ≡ is
-changed (Found x n) was is h = refl
+changed (Found n x) was is h = refl
 changed (Absent n) was is h = refl
 changed (Refused x) was is h = absurd (h x refl)
 
@@ -56,7 +57,7 @@ changed (Refused x) was is h = absurd (h x refl)
 module _ (s : List ℕ) (book : Record) (name was : List ℕ) (o : OpenedBook s book) (room : 5 ≤ length was) where
   -- every check is passed, so that the answer is the descent's
   answer-is : 1 ≤ length name → length name ≤ 1024
-      → lookedUp s book name (length was) ≡ answerOf book (countIn s book name) (outcomeIn s book name)
+      → lookedUp s book name (length was) ≡ answerOf book (effortIn s book name) (outcomeIn s book name)
   unfolding lookedUp
   answer-is some short = rw (le-leb 1 (length name) some, le-leb (length name) 1024 short, le-leb 5 (length was) room, o .fits) refl
 
@@ -80,7 +81,7 @@ pub complete : (s : List ℕ) (book : Record) (name was : List ℕ) → opened s
 complete s book name was accepts some short room =
     let b : OpenedBook s book = opened-book s book accepts in
     let d : Demand3 (directoryOf s book) (shapeOf book) name = demand-3 (directoryOf s book) (shapeOf book) (b .directory) name in
-    let n : ℕ = countIn s book name in
+    let n : Effort = effortIn s book name in
     let o : Outcome = outcomeIn s book name in
     let a : lookedUp s book name (length was) ≡ answerOf book n o = answer-is s book name was b room some short in
     let taken : (x : Refusal) → lookedUp s book name (length was) ≢ Refused x = λ x q. d .never-refused (refused-of book n o x (sym a ∙ q)) in

@@ -1,7 +1,10 @@
 pub mod Steps
+pub mod Costs
 pub mod Trail
 pub mod Descending
 pub mod Complete
+pub mod Counting
+pub mod Blocks
 pub mod Promised
 pub mod Refusals
 pub mod Replies

@@ -1,9 +1,9 @@
 -- What `lookup` promises, from its checks and from the descent.
 -- Assumes nothing.
-use mathlib.Core.Path.{_≡_, refl, sym, ap, _∙_}
+use mathlib.Core.Path.{_≡_, refl, sym, ap, ap₂, _∙_}
 use mathlib.Core.Bool.{true, false}
 use mathlib.Core.List.{List}
-use Prim.Native.Nat.{ℕ, _+_, _≤_, _<_}
+use Prim.Native.Nat.{ℕ, _≤_, _<_}
 use native.Mathlib.Omega.{arith}
 use lib.ListN.{length}
 use borrow.Author.Tests.{le-leb, lt-leb}
@@ -14,23 +14,30 @@ use Rattle.tree.specs.Descent.{outcome, trail}
 use Rattle.book.specs.Book.{shapeOf, bookFits}
 use Rattle.directory.specs.Opened.{opened}
 use Rattle.directory.specs.declared.Opened.the-variants.{Book}
-use Rattle.lookup.specs.Lookup.{trailIn, outcomeIn, refusal, answerOf, lookedUp, trailAfter}
-use Rattle.lookup.specs.Step.{Descended}
+use Rattle.lookup.specs.Lookup.{trailIn, outcomeIn, effortIn, refusal, answerOf, lookedUp, trailAfter}
+use Rattle.lookup.specs.Step.{effortAfter, Descended}
 use Rattle.lookup.specs.Complete.{Complete}
+use Rattle.lookup.specs.Counted.{Counted}
+use Rattle.lookup.specs.Blocks.{OnlyBlocks}
+use Rattle.lookup.specs.declared.Effort.{Effort}
 use Rattle.lookup.specs.declared.Answer.{Answer}
 use Rattle.lookup.proofs.Complete.{complete}
+use Rattle.lookup.proofs.Counting.{counted}
+use Rattle.lookup.proofs.Blocks.{only-blocks}
 
 module _ (s : List ℕ) (book : Record) (name was : List ℕ) where
-  -- the three clauses
+  -- the five clauses
   abbrev pub Promised : Answer → List ℕ → Type 0
   Promised r is =
       (r ≡ lookedUp s book name (length was))
       × ((is ≡ trailAfter s book name was)
-      × (opened s ≡ Book book → 1 ≤ length name → length name ≤ 1024 → 5 ≤ length was → Complete s book name was r is))
+      × ((opened s ≡ Book book → 1 ≤ length name → length name ≤ 1024 → 5 ≤ length was → Complete s book name was r is)
+      × (Counted s book name r × OnlyBlocks s book name was r is)))
 
-  -- the third follows from the others
+  -- the last three follow from the first two
   promised : (r : Answer) (is : List ℕ) → r ≡ lookedUp s book name (length was) → is ≡ trailAfter s book name was → Promised r is
-  promised r is p q = (p, (q, λ o a b c. rw (p, q) (complete s book name was o a b c)))
+  promised r is p q =
+      (p, (q, ((λ o a b c. rw (p, q) (complete s book name was o a b c)), (rw p (counted s book name (length was)), rw (p, q) (only-blocks s book name was)))))
 
   -- ---- a refusal
 
@@ -54,11 +61,12 @@ module _ (s : List ℕ) (book : Record) (name was : List ℕ) where
 
       -- ---- the descent
 
-      pub descended : (r : Answer) (is : List ℕ) → bookFits s book ≡ true → Descended s book name (book .depth) (top (shapeOf book)) 0 was r is → Promised r is
+      pub descended : (r : Answer) (is : List ℕ) → bookFits s book ≡ true → Descended s book name (book .depth) (top (shapeOf book)) 0 0 was r is → Promised r is
       unfolding lookedUp trailAfter outcome trail
       descended r is h d =
-          let z : 0 + length (trailIn s book name) ≡ length (trailIn s book name) = omega arith in
+          let z : effortAfter s book name 0 0 (trailIn s book name) ≡ effortIn s book name =
+          ap₂ (λ (x y : ℕ). record { chunks = x; comparisons = y }) (omega arith) (omega arith) in
           let p : r ≡ lookedUp s book name (length was) =
           rw (good, le-leb 5 (length was) room, h)
-          (d .answer ∙ ap (λ (n : ℕ). answerOf book n (outcomeIn s book name)) z) in
+          (d .answer ∙ ap (λ (n : Effort). answerOf book n (outcomeIn s book name)) z) in
           promised r is p (rw (← p) (d .places))

@@ -12,7 +12,8 @@ use Rattle.tree.specs.Shape.{noChunk}
 use Rattle.tree.specs.Descent.{Outcome, found, absent, refused}
 use Rattle.book.specs.Book.{bookFits}
 use Rattle.book.specs.declared.Refusal.{Refusal}
-use Rattle.lookup.specs.Lookup.{outcomeIn, countIn, refusal, answerOf, lookedUp}
+use Rattle.lookup.specs.Lookup.{outcomeIn, effortIn, refusal, answerOf, lookedUp}
+use Rattle.lookup.specs.declared.Effort.{Effort}
 use Rattle.lookup.specs.declared.Answer.the-variants.{Refused}
 
 abbrev InTable : Refusal → Type 0
@@ -24,7 +25,7 @@ told n x l h q =
     let a : n ≡ x .number = ap (λ (w : Refusal). w .number) y in
     (omega arith, omega arith, sym (ap (λ (w : Refusal). w .chunk) y))
 
-answer-told : (book : Record) (n : ℕ) (o : Outcome) (x : Refusal) → answerOf book n o ≡ Refused x → InTable x
+answer-told : (book : Record) (n : Effort) (o : Outcome) (x : Refusal) → answerOf book n o ≡ Refused x → InTable x
 answer-told book n (found c e) x q = absurd (let z : _≡_ {A = ℕ} 0 1 = cc in omega arith)
 answer-told book n absent x q = absurd (let z : _≡_ {A = ℕ} 0 1 = cc in omega arith)
 answer-told book n refused x q = told 17 x (omega arith) (omega arith) q
@@ -34,8 +35,8 @@ pub lookup-refusal : (s : List ℕ) (book : Record) (name : List ℕ) (places : 
 unfolding lookedUp
 lookup-refusal s book name places x = go (askable name) (leb 5 places) (bookFits s book)
   where
-    go : (a b c : Bool) → cond a (cond b (cond c (answerOf book (countIn s book name) (outcomeIn s book name)) (refusal 17)) (refusal 16)) (refusal 15) ≡ Refused x → InTable x
-    go true true true q = answer-told book (countIn s book name) (outcomeIn s book name) x q
+    go : (a b c : Bool) → cond a (cond b (cond c (answerOf book (effortIn s book name) (outcomeIn s book name)) (refusal 17)) (refusal 16)) (refusal 15) ≡ Refused x → InTable x
+    go true true true q = answer-told book (effortIn s book name) (outcomeIn s book name) x q
     go true true false q = told 17 x (omega arith) (omega arith) q
     go true false c q = told 16 x (omega arith) (omega arith) q
     go false b c q = told 15 x (omega arith) (omega arith) q

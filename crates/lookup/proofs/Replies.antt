@@ -13,8 +13,9 @@ use Rattle.header.specs.declared.Record.{Record}
 use Rattle.tree.specs.Descent.{Outcome, found, absent, refused}
 use Rattle.book.specs.Book.{refusalOf, bookFits}
 use Rattle.book.specs.declared.Refusal.{Refusal}
-use Rattle.lookup.specs.Lookup.{outcomeIn, countIn, answerOf, lookedUp}
+use Rattle.lookup.specs.Lookup.{outcomeIn, effortIn, answerOf, lookedUp}
 use Rattle.lookup.specs.Reply.{replyTo, repliedTo, replyOf}
+use Rattle.lookup.specs.declared.Effort.{Effort}
 use Rattle.lookup.specs.declared.Answer.{Answer}
 use Rattle.lookup.specs.declared.Reply.the-variants.{Refused}
 
@@ -50,7 +51,7 @@ module _ (s : List ℕ) (book : Record) (name : List ℕ) (o : Outcome) where
 
 -- ---- lookup's answer
 
-reply-answer : (book : Record) (n : ℕ) (o : Outcome) → replyOf (answerOf book n o) ≡ replyTo book o
+reply-answer : (book : Record) (n : Effort) (o : Outcome) → replyOf (answerOf book n o) ≡ replyTo book o
 reply-answer book n (found c e) = refl
 reply-answer book n absent = refl
 reply-answer book n refused = refl
@@ -60,8 +61,8 @@ unfolding lookedUp repliedTo
 looked-reply s book name places h = rw (le-leb 5 places h) (go (askable name) (bookFits s book))
   where
     go : (a b : Bool)
-        → replyOf (cond a (cond b (answerOf book (countIn s book name) (outcomeIn s book name)) (Answer.Refused (refusalOf 17))) (Answer.Refused (refusalOf 15)))
+        → replyOf (cond a (cond b (answerOf book (effortIn s book name) (outcomeIn s book name)) (Answer.Refused (refusalOf 17))) (Answer.Refused (refusalOf 15)))
         ≡ cond a (cond b (replyTo book (outcomeIn s book name)) (Refused (refusalOf 17))) (Refused (refusalOf 15))
-    go true true = reply-answer book (countIn s book name) (outcomeIn s book name)
+    go true true = reply-answer book (effortIn s book name) (outcomeIn s book name)
     go true false = refl
     go false b = refl

@@ -15,7 +15,8 @@ use Rattle.tree.specs.Demand.{Holds}
 use Rattle.book.specs.Book.{directoryOf, shapeOf, reportOf}
 use Rattle.book.specs.declared.Report.{Report}
 use Rattle.book.specs.declared.Refusal.{Refusal}
-use Rattle.lookup.specs.Lookup.{trailIn, countIn}
+use Rattle.lookup.specs.Lookup.{trailIn, countIn, effortIn}
+use Rattle.lookup.specs.declared.Effort.{Effort}
 use Rattle.lookup.specs.declared.Answer.{Answer}
 use Rattle.lookup.specs.declared.Answer.the-variants.{Found, Absent, Refused}
 
@@ -30,13 +31,13 @@ bookFirst s book = firstName (directoryOf s book (book .first))
 -- `r` is the answer; `was` and `is` are the trail before and after
 pub record Complete (s : List ℕ) (book : Record) (name was : List ℕ) (r : Answer) (is : List ℕ) : Type 0 where
   -- an entry that a listing chunk holds is found, and is the one reported;
-  pub held-found : (c : ℕ) (e : Entry) → HoldsIn s book name c e → r ≡ Found (reportOf book c e) (countIn s book name)
+  pub held-found : (c : ℕ) (e : Entry) → HoldsIn s book name c e → r ≡ Found (effortIn s book name) (reportOf book c e)
   -- what is found is an entry that a listing chunk holds;
-  pub found-held : (x : Report) (n : ℕ) → r ≡ Found x n → (c : ℕ) × (e : Entry) × HoldsIn s book name c e × (x ≡ reportOf book c e)
+  pub found-held : (x : Report) (n : Effort) → r ≡ Found n x → (c : ℕ) × (e : Entry) × HoldsIn s book name c e × (x ≡ reportOf book c e)
   -- there is no more than one such entry
   pub only : (c d : ℕ) (e f : Entry) → HoldsIn s book name c e → HoldsIn s book name d f → (c ≡ d) × (e ≡ f)
   -- absent is the answer exactly where no listing chunk holds the name; a refusal never is
-  pub absent-iff : (r ≡ Absent (countIn s book name)) ↔ ((c : ℕ) (e : Entry) → ¬ HoldsIn s book name c e)
+  pub absent-iff : (r ≡ Absent (effortIn s book name)) ↔ ((c : ℕ) (e : Entry) → ¬ HoldsIn s book name c e)
   pub never-refused : (x : Refusal) → r ≢ Refused x
   -- the trail begins with the chunks of the descent, and its later places stay
   pub places : is ≡ trailIn s book name ++ drop (countIn s book name) was

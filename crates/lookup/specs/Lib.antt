@@ -1,4 +1,6 @@
 pub mod Lookup
 pub mod Step
 pub mod Complete
+pub mod Counted
+pub mod Blocks
 pub mod Reply

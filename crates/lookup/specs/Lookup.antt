@@ -1,8 +1,8 @@
 -- The lookup of a name in a file by a record, which may be made up: its answer, and what it leaves in the lent trail (FORMAT, Asking).
 -- Assumes nothing.
 use mathlib.Core.Bool.{Bool, true, false, cond}
-use mathlib.Core.List.{List}
-use Prim.Native.Nat.{ℕ}
+use mathlib.Core.List.{List, [], _∷_}
+use Prim.Native.Nat.{ℕ, _+_}
 use lib.ListN.{length}
 use lib.Seq.{sets}
 use lib.Dec.{leb}
@@ -10,6 +10,8 @@ use Rattle.names.specs.Names.{askable}
 use Rattle.header.specs.declared.Record.{Record}
 use Rattle.tree.specs.Descent.{Outcome, found, absent, refused, outcome, trail}
 use Rattle.book.specs.Book.{directoryOf, shapeOf, bookFits, refusalOf, reportOf}
+use Rattle.book.specs.Search.{costAt}
+use Rattle.lookup.specs.declared.Effort.{Effort}
 use Rattle.lookup.specs.declared.Answer.{Answer}
 use Rattle.lookup.specs.declared.Answer.the-variants.{Found, Absent, Refused}
 
@@ -27,16 +29,25 @@ trailIn s book name = trail (directoryOf s book) (shapeOf book) name
 abbrev pub countIn : List ℕ → Record → List ℕ → ℕ
 countIn s book name = length (trailIn s book name)
 
+-- how many comparisons of the asked name are made in chunks of these numbers
+unfoldable pub costs : List ℕ → Record → List ℕ → List ℕ → ℕ
+costs s book name [] = 0
+costs s book name (c ∷ cs) = costAt s book name c + costs s book name cs
+
+-- what the descent takes: its chunks (K5), and the comparisons in them (K26)
+abbrev pub effortIn : List ℕ → Record → List ℕ → Effort
+effortIn s book name = record { chunks = countIn s book name; comparisons = costs s book name (trailIn s book name) }
+
 -- ---- the answer
 
 -- a refusal of lookup has no chunk for its place (RO7)
 abbrev pub refusal : ℕ → Answer
 refusal n = Refused (refusalOf n)
 
--- what a descent of n chunks answers (K3): found has the five numbers of the entry (K6), and found and absent, which are no refusals (RO9),
--- have n (K5); 17 where it met a chunk that is none of its level (R17, K13, K14)
-abbrev pub answerOf : Record → ℕ → Outcome → Answer
-answerOf book n (found c e) = Found (reportOf book c e) n
+-- what a descent answers (K3): found has the five numbers of the entry (K6), and found and absent, which are no refusals (RO9), have what it took, n;
+-- 17 where it met a chunk that is none of its level (R17, K13, K14)
+abbrev pub answerOf : Record → Effort → Outcome → Answer
+answerOf book n (found c e) = Found n (reportOf book c e)
 answerOf book n absent = Absent n
 answerOf book n refused = refusal 17
 
@@ -46,7 +57,7 @@ lookedUp s book name places =
     cond (askable name)
     (cond (leb 5 places)
     (cond (bookFits s book)
-    (answerOf book (countIn s book name) (outcomeIn s book name))
+    (answerOf book (effortIn s book name) (outcomeIn s book name))
     (refusal 17))
     (refusal 16))
     (refusal 15)
@@ -54,7 +65,7 @@ lookedUp s book name places =
 -- ---- the trail
 
 abbrev pub isRefusal : Answer → Bool
-isRefusal (Found x n) = false
+isRefusal (Found n x) = false
 isRefusal (Absent n) = false
 isRefusal (Refused x) = true
 

@@ -1,4 +1,4 @@
--- The answer of a search that leaves no trail, and what a lookup answers without its count.
+-- The answer of a search that leaves no trail, and what a lookup answers without its effort.
 -- Assumes nothing.
 use mathlib.Core.Path.{_≡_}
 use mathlib.Core.Bool.{cond}
@@ -25,9 +25,9 @@ replyTo book refused = Refused (refusalOf 17)
 unfoldable pub repliedTo : List ℕ → Record → List ℕ → Outcome → Reply
 repliedTo s book name o = cond (askable name) (cond (bookFits s book) (replyTo book o) (Refused (refusalOf 17))) (Refused (refusalOf 15))
 
--- an answer of lookup without its count
+-- an answer of lookup without its effort
 abbrev pub replyOf : Answer → Reply
-replyOf (Answer.Found x n) = Found x
+replyOf (Answer.Found n x) = Found x
 replyOf (Answer.Absent n) = Absent
 replyOf (Answer.Refused x) = Refused x
 

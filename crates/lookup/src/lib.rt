@@ -1,13 +1,16 @@
 // Lookup: the descent for a name, with a trail of the chunks that it goes through.
 ghost use mathlib.Core.Path.{_≡_};
-ghost use mathlib.Core.Bool.{false};
-ghost use Prim.Native.Nat.{_+_, _^_, _≤_, _<_};
+ghost use mathlib.Core.Bool.{false, cond};
+ghost use Prim.Native.Nat.{_+_, _*_, _^_, _≤_, _<_};
 ghost use lib.ListN.{length, set};
+ghost use Rattle.book.specs.Search.{costAt};
 ghost use Rattle.directory.specs.Opened.{opened};
 ghost use Rattle.directory.specs.declared.Opened.the-variants.{Book};
-ghost use Rattle.lookup.specs.Lookup.{refusal, answerOf, isRefusal, unless, lookedUp, trailAfter};
+ghost use Rattle.lookup.specs.Lookup.{refusal, answerOf, isRefusal, lookedUp, trailAfter};
 ghost use Rattle.lookup.specs.Step.{wayAt, outcomeAt, Descended};
 ghost use Rattle.lookup.specs.Complete.{Complete};
+ghost use Rattle.lookup.specs.Counted.{Counted};
+ghost use Rattle.lookup.specs.Blocks.{OnlyBlocks};
 use book::Refusal;
 use book::Report;
 use book::Search;
@@ -15,24 +18,30 @@ use chunk::Chunk;
 use header::Record;
 use seek::Child;
 
-// What a lookup answers; the number behind it is the count of the descent's chunks.
+// What a descent takes: how many chunks it goes through, and how many names of theirs it compares with the asked one.
+pub struct Effort {
+    pub chunks: u32,
+    pub comparisons: u32,
+}
+
+// What a lookup answers, with what its descent took in front, where the compiler hands found and absent on alike.
 pub enum Answer {
-    Found(Report, u32),
-    Absent(u32),
+    Found(Effort, Report),
+    Absent(Effort),
     Refused(Refusal),
 }
 
-// The same without the count, for a search that leaves no trail.
+// The same without the effort, for a search that leaves no trail.
 pub enum Reply {
     Found(Report),
     Absent,
     Refused(Refusal),
 }
 
-// Where an index chunk leads a descent: down to a chunk, or nowhere; `Barred` where it is no index chunk.
+// Where an index chunk leads a descent: down to a chunk, or nowhere; the number at the end is how many names were compared. `Barred` where it is no index chunk.
 enum Way {
-    Down(u64),
-    Ends,
+    Down(u64, u32),
+    Ends(u32),
     Barred,
 }
 
@@ -43,13 +52,28 @@ fn refused(number: u8) -> Answer
     Answer::Refused(book::refuse(number))
 }
 
-// What chunk c, which has to be a listing chunk, answers to a name; n is the count of the descent's chunks.
-fn ask_listing(file: &[u8], book: Record, name: &[u8], c: u64, n: u32) -> Answer
-    ensures { λ r. ⌜ r ≡ answerOf book n (outcomeAt (now (file .entry)) book (now (name .entry)) 1 c) ⌝ }
+// What chunk c, which has to be a listing chunk, answers to a name; n is the count of the descent's chunks, `spent` how many names were compared before.
+fn ask_listing(file: &[u8], book: Record, name: &[u8], c: u64, n: u32, spent: u32) -> Answer
+    requires { ⌜ spent < 0x100000 ⌝ }
+    ensures { λ r. ⌜ r ≡ answerOf book (record { chunks = n; comparisons = spent + costAt (now (file .entry)) book (now (name .entry)) c }) (outcomeAt (now (file .entry)) book (now (name .entry)) 1 c) ⌝ }
 {
     match book::search_in(file, book, name, c) {
-        Search::Found(x) => Answer::Found(x, n),
-        Search::Next(_) => Answer::Absent(n),
+        Search::Found(count, x) => {
+            let sum = spent + count;
+            let effort = Effort {
+                chunks: n,
+                comparisons: sum,
+            };
+            Answer::Found(effort, x)
+        }
+        Search::Next(missed, _) => {
+            let total = spent + missed;
+            let effort = Effort {
+                chunks: n,
+                comparisons: total,
+            };
+            Answer::Absent(effort)
+        }
         Search::Barred => refused(17),
     }
 }
@@ -61,26 +85,38 @@ fn ask_index(file: &[u8], book: Record, name: &[u8], c: u64) -> Way
     let Chunk::Index = book::met(file, book, c) else {
         return Way::Barred;
     };
-    match book::child_in(file, book, name, c) {
-        Child::Below(child) => Way::Down(child),
-        Child::Nowhere => Way::Ends,
+    let chosen = book::child_in(file, book, name, c);
+    let child = chosen.child;
+    match child {
+        Child::Below(below) => Way::Down(below, chosen.count),
+        Child::Nowhere => Way::Ends(chosen.count),
     }
 }
 
-// An answer; unless it is a refusal, chunk c goes to place i of the trail.
-fn marked(answer: Answer, trail: &mut [u32], i: usize, c: u64) -> Answer
-    requires { ⌜ (i < length (now trail)) × (isRefusal answer ≡ false → c < 2 ^ 32) ⌝ }
-    ensures same { λ r. ⌜ r ≡ answer ⌝ }
-    ensures place { λ _. ⌜ now (trail .exit) ≡ unless answer (now (trail .entry)) (set (now (trail .entry)) i c) ⌝ }
+// Whether an answer is a refusal.
+fn is_refusal(answer: Answer) -> bool
+    ensures { λ r. ⌜ r ≡ isRefusal answer ⌝ }
 {
-    if let Answer::Refused(_) = answer {
-        return answer;
+    match answer {
+        Answer::Found(_, _) => false,
+        Answer::Absent(_) => false,
+        Answer::Refused(_) => true,
+    }
+}
+
+// Chunk c goes to place i of the trail, unless the answer is a refusal. The answer itself is not handed in: to hand it back would be to copy it once a level.
+fn mark(refused: bool, trail: &mut [u32], i: usize, c: u64)
+    requires { ⌜ (i < length (now trail)) × (refused ≡ false → c < 2 ^ 32) ⌝ }
+    ensures { λ _. ⌜ now (trail .exit) ≡ cond refused (now (trail .entry)) (set (now (trail .entry)) i c) ⌝ }
+{
+    if refused {
+        return;
     }
     trail[i] = c as u32;
-    answer
 }
 
-// The descent from chunk c of a level on, which is chunk i of the whole descent. The trail is written on the way back, once the outcome is known.
+// The descent from chunk c of a level on, which is chunk i of the whole descent; `spent` is how many names it compared before. The trail is written on the
+// way back, once the outcome is known.
 fn descend(
     file: &[u8],
     book: Record,
@@ -89,20 +125,33 @@ fn descend(
     c: u64,
     trail: &mut [u32],
     i: usize,
+    spent: u32,
 ) -> Answer
-    requires { ⌜ (book .count ≤ 4096) × (1 ≤ level) × (i + level ≤ 5) × (5 ≤ length (now trail)) ⌝ }
-    ensures { λ r. ⌜ Descended (now (file .entry)) book (now (name .entry)) level c i (now (trail .entry)) r (now (trail .exit)) ⌝ }
+    requires { ⌜ (book .count ≤ 4096) × (1 ≤ level) × (i + level ≤ 5) × (5 ≤ length (now trail)) × (spent ≤ i * 0x20000) ⌝ }
+    ensures { λ r. ⌜ Descended (now (file .entry)) book (now (name .entry)) level c i spent (now (trail .entry)) r (now (trail .exit)) ⌝ }
 {
     let n = (i + 1) as u32;
     if level < 2 {
-        return marked(ask_listing(file, book, name, c, n), trail, i, c);
+        let answer = ask_listing(file, book, name, c, n, spent);
+        mark(is_refusal(answer), trail, i, c);
+        return answer;
     }
     match ask_index(file, book, name, c) {
-        Way::Down(child) => {
-            let answer = descend(file, book, name, level - 1, child, trail, i + 1);
-            marked(answer, trail, i, c)
+        Way::Down(child, count) => {
+            let so_far = spent + count;
+            let answer = descend(file, book, name, level - 1, child, trail, i + 1, so_far);
+            mark(is_refusal(answer), trail, i, c);
+            answer
         }
-        Way::Ends => marked(Answer::Absent(n), trail, i, c),
+        Way::Ends(count) => {
+            let total = spent + count;
+            let effort = Effort {
+                chunks: n,
+                comparisons: total,
+            };
+            mark(false, trail, i, c);
+            Answer::Absent(effort)
+        }
         Way::Barred => refused(17),
     }
 }
@@ -112,6 +161,8 @@ pub fn lookup(file: &[u8], book: Record, name: &[u8], trail: &mut [u32]) -> Answ
     ensures answer { λ r. ⌜ r ≡ lookedUp (now (file .entry)) book (now (name .entry)) (length (now (trail .entry))) ⌝ }
     ensures places { λ _. ⌜ now (trail .exit) ≡ trailAfter (now (file .entry)) book (now (name .entry)) (now (trail .entry)) ⌝ }
     ensures complete { λ r. ⌜ (opened (now (file .entry)) ≡ Book book → 1 ≤ length (now (name .entry)) → length (now (name .entry)) ≤ 1024 → 5 ≤ length (now (trail .entry)) → Complete (now (file .entry)) book (now (name .entry)) (now (trail .entry)) r (now (trail .exit))) ⌝ }
+    ensures counted { λ r. ⌜ Counted (now (file .entry)) book (now (name .entry)) r ⌝ }
+    ensures blocks { λ r. ⌜ OnlyBlocks (now (file .entry)) book (now (name .entry)) (now (trail .entry)) r (now (trail .exit)) ⌝ }
 {
     let good_name = names::is_askable(name);
     let good_record = book::fits(file, book);
@@ -131,6 +182,7 @@ pub fn lookup(file: &[u8], book: Record, name: &[u8], trail: &mut [u32]) -> Answ
         book.depth,
         book::top_chunk(book),
         trail,
+        0,
         0,
     )
 }

@@ -15,8 +15,8 @@ fn scan_chain(file: &[u8], book: Record, name: &[u8]) -> Reply
     let mut left = book.count;
     while 0 < left {
         match book::search_in(file, book, name, c) {
-            Search::Found(x) => return Reply::Found(x),
-            Search::Next(next) => {
+            Search::Found(_, x) => return Reply::Found(x),
+            Search::Next(_, next) => {
                 if next == tree::no_chunk() {
                     return Reply::Absent;
                 }

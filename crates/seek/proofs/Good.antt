@@ -11,34 +11,25 @@ use Prim.Native.Nat.{ℕ, zero, suc, _+_, _-_, _*_, _/_, _%_, _≤_, _<_}
 use native.Mathlib.Omega.{arith}
 use native.Mathlib.Decide.{decLt}
 use native.Mathlib.Nat.{div-add-mod'}
-use lib.ListN.{length, drop}
+use lib.ListN.{length, take, drop}
 use borrow.Author.Tests.{lt-ltb, le-ltb}
 use Rattle.names.specs.Order.{isLess, isEqual, notGreater}
 use Rattle.names.specs.Names.{compared, below, matches}
 use Rattle.names.specs.declared.Order.{Order}
 use Rattle.names.specs.declared.Order.the-variants.{Less, Equal, Greater}
-use Rattle.names.proofs.Laws.{names-laws, notGreater-less, below-less}
 use Rattle.entries.specs.Entry.{nameOf}
 use Rattle.entries.specs.declared.Limits.{Limits}
 use Rattle.entries.specs.declared.Place.{Place}
 use Rattle.chunk.specs.Chunk.{Entry, all, entryOf, entriesAt, rising, headOf, countOf, tailOf, spacingOf, parsed, entriesIn, isKind}
-use Rattle.chunk.proofs.Rising.{rising-more}
-use Rattle.chunk.proofs.Accepted.{Accepted, accepted, entries-more, entries-none, entries-count}
-use Rattle.seek.specs.Seek.{byOrder, Sought, absent, found, lookup, choice, nth, final, soughtOf, findAt, chooseAt, afterAt, groupAt, nthIn, findIn, chooseIn, lastIn}
-use Rattle.seek.proofs.Groups.{group-entries, group-good}
+use Rattle.chunk.proofs.Rising.{rising-more, rising-drop}
+use Rattle.chunk.proofs.Accepted.{Accepted, accepted, entries-more, entries-count}
+use Rattle.seek.specs.Seek.{byOrder, absent, found, lookup, choice, nth, final, soughtOf, findAt, chooseAt, afterAt, groupAt, groupIn, sizeIn, nthIn, findIn, chooseIn, lastIn}
+use Rattle.seek.proofs.Behind.{rising-take, lookup-behind, choice-behind}
+use Rattle.seek.proofs.Groups.{group-entries, last-inside, group-right, group-lookup, group-choice}
 use Rattle.seek.specs.declared.Hit.{Hit}
 use Rattle.seek.specs.declared.Hit.the-variants.{At, Nothing}
 
 -- ---- the entry of a name
-
--- names rise, so behind one that is not below the name there is only what is above it
-lookup-behind : (name x : List ℕ) (es : List Entry) → notGreater (compared name x) ≡ true → rising x es ≡ true → lookup name es ≡ absent
-unfolding rising lookup matches
-lookup-behind name x [] h r = refl
-lookup-behind name x (e ∷ es) h r =
-    let q = rising-more x e es r in
-    let l = notGreater-less names-laws name x (e .name) h (below-less x (e .name) (q .0)) in
-    rw l (lookup-behind name (e .name) es (ap notGreater l) (q .1))
 
 find-here : (s name : List ℕ) (p : Place) (h : Hit) (es : List Entry) (o : Order) → compared name (nameOf s p) ≡ o → rising (nameOf s p) es ≡ true
     → soughtOf s h ≡ lookup name es → soughtOf s (byOrder o Nothing (At p) h) ≡ cond (isEqual o) (found (entryOf s p)) (lookup name es)
@@ -46,28 +37,22 @@ find-here s name p h es Less q r e = sym (lookup-behind name (nameOf s p) es (ap
 find-here s name p h es Equal q r e = refl
 find-here s name p h es Greater q r e = e
 
-find-all : (limits : Limits) (s name : List ℕ) (end n at : ℕ) (x : List ℕ) (es : List Entry) → entriesAt limits true s end n at ≡ all es → rising x es ≡ true
-    → soughtOf s (findAt limits s name n at) ≡ lookup name es
-unfolding findAt lookup rising matches
-find-all limits s name end zero at x es e r = rw (entries-none limits true s end at es e) refl
-find-all limits s name end (suc n) at x es e r =
-    let m = entries-more limits true s end n at es e in
-    let p = m .0 in
-    let q = rising-more x (entryOf s p) (m .1) (subst (λ (l : List Entry). rising x l ≡ true) (m .3) r) in
-    let i = find-all limits s name end n (p .next) (nameOf s p) (m .1) (m .4) (q .1) in
-    let here : soughtOf s (findAt limits s name (suc n) at) ≡ lookup name (entryOf s p ∷ m .1) =
-    rw (m .2) (find-here s name p (findAt limits s name n (p .next)) (m .1) (compared name (nameOf s p)) refl (q .1) i) in
-    here ∙ ap (lookup name) (sym (m .3))
+-- among the first m of n entries
+find-all : (limits : Limits) (s name : List ℕ) (end n m at : ℕ) (x : List ℕ) (es : List Entry) → m ≤ n → entriesAt limits true s end n at ≡ all es → rising x es ≡ true
+    → soughtOf s (findAt limits s (compared name) m at) ≡ lookup name (take m es)
+unfolding findAt lookup matches
+find-all limits s name end n zero at x es l e r = refl
+find-all limits s name end zero (suc m) at x es l e r = absurd (omega arith)
+find-all limits s name end (suc n) (suc m) at x es l e r =
+    let t = entries-more limits true s end n at es e in
+    let p = t .0 in
+    let q = rising-more x (entryOf s p) (t .1) (subst (λ (l : List Entry). rising x l ≡ true) (t .3) r) in
+    let i = find-all limits s name end n m (p .next) (nameOf s p) (t .1) (omega arith) (t .4) (q .1) in
+    let here : soughtOf s (findAt limits s (compared name) (suc m) at) ≡ lookup name (take (suc m) (entryOf s p ∷ t .1)) =
+    rw (t .2) (find-here s name p (findAt limits s (compared name) m (p .next)) (take m (t .1)) (compared name (nameOf s p)) refl (rising-take m (nameOf s p) (t .1) (q .1)) i) in
+    here ∙ ap (λ (l : List Entry). lookup name (take (suc m) l)) (sym (t .3))
 
 -- ---- the entry to go down from
-
-choice-behind : (name x : List ℕ) (es : List Entry) (last : Sought) → notGreater (compared name x) ≡ true → rising x es ≡ true → choice name last es ≡ last
-unfolding rising choice below
-choice-behind name x [] last h r = refl
-choice-behind name x (e ∷ es) last h r =
-    let q = rising-more x e es r in
-    let l = notGreater-less names-laws name x (e .name) h (below-less x (e .name) (q .0)) in
-    rw l (choice-behind name (e .name) es last (ap notGreater l) (q .1))
 
 choose-here : (s name : List ℕ) (p : Place) (best h : Hit) (es : List Entry) (o : Order) → compared name (nameOf s p) ≡ o → rising (nameOf s p) es ≡ true
     → soughtOf s h ≡ choice name (found (entryOf s p)) es
@@ -76,18 +61,19 @@ choose-here s name p best h es Less q r e = sym (choice-behind name (nameOf s p)
 choose-here s name p best h es Equal q r e = sym (choice-behind name (nameOf s p) es (found (entryOf s p)) (ap notGreater q) r)
 choose-here s name p best h es Greater q r e = e
 
-choose-all : (limits : Limits) (s name : List ℕ) (end n at : ℕ) (x : List ℕ) (best : Hit) (es : List Entry) → entriesAt limits false s end n at ≡ all es → rising x es ≡ true
-    → soughtOf s (chooseAt limits s name best n at) ≡ choice name (soughtOf s best) es
-unfolding chooseAt choice rising below
-choose-all limits s name end zero at x best es e r = rw (entries-none limits false s end at es e) refl
-choose-all limits s name end (suc n) at x best es e r =
-    let m = entries-more limits false s end n at es e in
-    let p = m .0 in
-    let q = rising-more x (entryOf s p) (m .1) (subst (λ (l : List Entry). rising x l ≡ true) (m .3) r) in
-    let i = choose-all limits s name end n (p .next) (nameOf s p) (At p) (m .1) (m .4) (q .1) in
-    let here : soughtOf s (chooseAt limits s name best (suc n) at) ≡ choice name (soughtOf s best) (entryOf s p ∷ m .1) =
-    rw (m .2) (choose-here s name p best (chooseAt limits s name (At p) n (p .next)) (m .1) (compared name (nameOf s p)) refl (q .1) i) in
-    here ∙ ap (choice name (soughtOf s best)) (sym (m .3))
+choose-all : (limits : Limits) (s name : List ℕ) (end n m at : ℕ) (x : List ℕ) (best : Hit) (es : List Entry) → m ≤ n → entriesAt limits false s end n at ≡ all es → rising x es ≡ true
+    → soughtOf s (chooseAt limits s (compared name) best m at) ≡ choice name (soughtOf s best) (take m es)
+unfolding chooseAt choice below
+choose-all limits s name end n zero at x best es l e r = refl
+choose-all limits s name end zero (suc m) at x best es l e r = absurd (omega arith)
+choose-all limits s name end (suc n) (suc m) at x best es l e r =
+    let t = entries-more limits false s end n at es e in
+    let p = t .0 in
+    let q = rising-more x (entryOf s p) (t .1) (subst (λ (l : List Entry). rising x l ≡ true) (t .3) r) in
+    let i = choose-all limits s name end n m (p .next) (nameOf s p) (At p) (t .1) (omega arith) (t .4) (q .1) in
+    let here : soughtOf s (chooseAt limits s (compared name) best (suc m) at) ≡ choice name (soughtOf s best) (take (suc m) (entryOf s p ∷ t .1)) =
+    rw (t .2) (choose-here s name p best (chooseAt limits s (compared name) (At p) m (p .next)) (take m (t .1)) (compared name (nameOf s p)) refl (rising-take m (nameOf s p) (t .1) (q .1)) i) in
+    here ∙ ap (λ (l : List Entry). choice name (soughtOf s best) (take (suc m) l)) (sym (t .3))
 
 -- ---- entry i
 
@@ -157,15 +143,27 @@ nth-last (e ∷ es) = let z : suc (length es) - 1 ≡ length es = omega arith in
 -- ---- a chunk that passes its check
 
 module _ (limits : Limits) (s : List ℕ) where
-  pub find-good : (name : List ℕ) → isKind true (parsed limits s) ≡ true → soughtOf s (findIn limits s name) ≡ lookup name (entriesIn (parsed limits s))
+  pub find-good : (name : List ℕ) → isKind true (parsed limits s) ≡ true → soughtOf s (findIn limits s (compared name)) ≡ lookup name (entriesIn (parsed limits s))
   find-good name h =
-      let a = group-good limits true s (entriesIn (parsed limits s)) (accepted limits true s h) name in
-      find-all limits s name (4096 - tailOf s) _ _ (a .above) _ (a .entries) (a .rises) ∙ sym (a .lookups)
+      let es = entriesIn (parsed limits s) in
+      let a = accepted limits true s h in
+      let g = groupIn limits true s (compared name) in
+      let r = group-right limits true s es a (compared name) in
+      let b = rising-drop (g * spacingOf (limits .density)) [] es (a .rises) in
+      find-all limits s name (4096 - tailOf s) (countOf s - g * spacingOf (limits .density)) (sizeIn limits s g) (groupAt true s g) (b .0) (drop (g * spacingOf (limits .density)) es) (omega arith)
+      (group-entries limits true s es a g (last-inside limits true s es a g (r .0))) (b .1)
+      ∙ sym (group-lookup limits true s es a name g r)
 
-  pub choose-good : (name : List ℕ) → isKind false (parsed limits s) ≡ true → soughtOf s (chooseIn limits s name) ≡ choice name absent (entriesIn (parsed limits s))
+  pub choose-good : (name : List ℕ) → isKind false (parsed limits s) ≡ true → soughtOf s (chooseIn limits s (compared name)) ≡ choice name absent (entriesIn (parsed limits s))
   choose-good name h =
-      let a = group-good limits false s (entriesIn (parsed limits s)) (accepted limits false s h) name in
-      choose-all limits s name (4096 - tailOf s) _ _ (a .above) Nothing _ (a .entries) (a .rises) ∙ sym (a .choices)
+      let es = entriesIn (parsed limits s) in
+      let a = accepted limits false s h in
+      let g = groupIn limits false s (compared name) in
+      let r = group-right limits false s es a (compared name) in
+      let b = rising-drop (g * spacingOf (limits .density)) [] es (a .rises) in
+      choose-all limits s name (4096 - tailOf s) (countOf s - g * spacingOf (limits .density)) (sizeIn limits s g) (groupAt false s g) (b .0) Nothing (drop (g * spacingOf (limits .density)) es) (omega arith)
+      (group-entries limits false s es a g (last-inside limits false s es a g (r .0))) (b .1)
+      ∙ sym (group-choice limits false s es a name g r)
 
   pub nth-good : (k : Bool) (i : ℕ) → isKind k (parsed limits s) ≡ true → soughtOf s (nthIn limits k s i) ≡ nth i (entriesIn (parsed limits s))
   nth-good k i h = nth-accepted limits k s (entriesIn (parsed limits s)) (accepted limits k s h) i

@@ -1,40 +1,46 @@
 -- Groups of entries in a chunk that passes its check: where each begins, the one that halving leaves for a name, and that what a name leads to
--- stands there or behind.
+-- stands there.
 --     group-entries  the entries from a group on
---     group-right    halving leaves the first group, or one whose first name is not above the name
---     group-good     so what is sought among all entries is sought among those from there on
+--     same-group     halving over the bytes leaves the group that halving the entries does, and
+--     same-halvings  takes as many comparisons
+--     group-lookup, group-choice  what is sought among all entries is sought among those of that group
 -- Assumes nothing.
 use mathlib.Core.Path.{_≡_, refl, sym, ap, ap₂, subst, _∙_}
-use mathlib.Core.Logic.{_⊎_, inl, inr}
-use mathlib.Core.List.{List, [], _∷_}
-use mathlib.Core.Bool.{Bool, true, false, cond, false≢true}
+use mathlib.Core.Logic.{inl, inr}
+use mathlib.Core.List.{List, []}
+use mathlib.Core.Bool.{Bool, true}
 use Prim.Native.Nat.{ℕ, zero, suc, _+_, _-_, _*_, _/_, _≤_, _<_, min}
 use native.Mathlib.Omega.{arith}
 use native.Mathlib.Decide.{decLt, ℕ-discrete}
-use native.Mathlib.Nat.{div-eq-of-lt, le-div-iff-mul-le}
-use lib.ListN.{length, getD, drop}
+use native.Mathlib.Nat.{div-eq-of-lt, le-div-iff-mul-le, div-add-mod', mod-lt, pow-le-pow-right}
+use lib.Dec.{lit<}
+use lib.ListN.{length, getD, take, drop, length-drop}
 use lib.Seq.{getD-drop}
 use borrow.Author.Tests.{eq-eqb, ne-eqb}
-use Rattle.names.specs.Names.{compared, below, matches}
-use Rattle.names.specs.declared.Order.the-variants.{Greater}
-use Rattle.names.proofs.Laws.{names-laws, less-below, below-less, not-less, less-notGreater, flip-less}
+use Rattle.names.specs.Order.{isLess}
+use Rattle.names.specs.Names.{compared}
 use Rattle.entries.specs.Entry.{nameOf}
 use Rattle.entries.specs.declared.Limits.{Limits}
 use Rattle.entries.proofs.Laws.{item-inside}
-use Rattle.chunk.specs.Chunk.{Entry, all, entriesAt, rising, headOf, countOf, tailOf, spacingOf, quickCount}
+use Rattle.chunk.specs.Chunk.{Entry, all, entriesAt, headOf, countOf, tailOf, spacingOf, quickCount}
 use Rattle.chunk.proofs.Accepted.{Accepted, entries-more, entries-count}
 use Rattle.chunk.proofs.Quick.{word}
-use Rattle.chunk.proofs.Rising.{rising-more, rising-at, rising-drop}
-use Rattle.seek.specs.Seek.{Sought, absent, found, lookup, choice, groupAt, groupAbove, groupFrom, groupIn, leftFrom}
-use Rattle.seek.proofs.Steps.{group-one}
+use Rattle.chunk.proofs.Rising.{rising-drop}
+use Rattle.seek.specs.Seek.{Stand, absent, lookup, choice, nth, nameIn, halved, groupAt, groupAbove, lastGroup, groupIn, sizeIn}
+use Rattle.seek.specs.Count.{halvings, aboveIn, groupOf, halvingsIn}
+use Rattle.seek.proofs.Halving.{Lower, Upper, halved-one, halvings-one, halved-right, halved-same, halvings-same}
+use Rattle.seek.proofs.Behind.{other, nth-name, Ends, lookup-from, choice-from, lookup-until, choice-until}
 
 -- ---- the group of an empty chunk, and of one whose density is capped
 
-pub group-none : (limits : Limits) (k : Bool) (s name : List ℕ) → countOf s < 1 → groupIn limits k s name ≡ 0
+pub group-none : (limits : Limits) (k : Bool) (s : List ℕ) (stand : Stand) → countOf s < 1
+    → (groupIn limits k s stand ≡ 0) × (halvingsIn limits k s stand ≡ 0)
 unfolding groupIn
-group-none limits k s name h =
-    let z : quickCount (spacingOf (limits .density)) (countOf s) ≡ 0 = div-eq-of-lt (omega arith) in
-    group-one k s name (quickCount (spacingOf (limits .density)) (countOf s)) 0 (quickCount (spacingOf (limits .density)) (countOf s)) (omega arith)
+group-none limits k s stand h =
+    let z : lastGroup limits s ≡ 0 = div-eq-of-lt (omega arith) in (
+      halved-one (groupAbove k s stand) (lastGroup limits s) 0 (lastGroup limits s) (omega arith),
+      halvings-one (groupAbove k s stand) (lastGroup limits s) 0 (lastGroup limits s) (omega arith),
+    )
 
 -- where the cap counts, there is no group but the first
 pub capped-group : (density g i : ℕ) → i < 65536 → g ≤ i / spacingOf (min density 16) → g * spacingOf (min density 16) ≡ g * spacingOf density
@@ -47,6 +53,17 @@ capped-group density g i h l =
           let z : g ≡ 0 = omega arith in
           let none : (x : ℕ) → g * x ≡ 0 = λ x. omega (arith, ap (λ (y : ℕ). y * x) z) in
           none (spacingOf (min density 16)) ∙ sym (none (spacingOf density)))
+    ]
+
+-- nor does it count for how many entries of it are left
+pub capped-size : (density i : ℕ) → i < 65536 → min (spacingOf (min density 16)) i ≡ min (spacingOf density) i
+capped-size density i h =
+    elim (decLt density 16) [
+      | yes d ↦ ap (λ (x : ℕ). min (spacingOf x) i) (omega arith)
+      | no d ↦
+          (let m : min density 16 ≡ 16 = omega arith in
+          let u : 65536 ≤ spacingOf density = omega (arith, pow-le-pow-right {n = 2} (lit< tt) {i = 16} {j = density} (omega arith)) in
+          rw m (omega (arith, u)))
     ]
 
 -- ---- where a group begins
@@ -71,10 +88,6 @@ from-entry limits k s d end (suc n) (suc j) at es h e =
     let r = from-entry limits k s d end n j (m .0 .next) (m .1) (omega arith) (m .4) in
     ap₂ (λ (x : ℕ) (l : List Entry). entriesAt limits k s end x (getD l (suc j) d .at)) z (m .3) ∙ r ∙ ap (λ (l : List Entry). all (drop (suc j) l)) (sym (m .3))
 
--- some entry, for places past the last
-abbrev other : Entry
-other = record { at = 0; start = 0; name = []; section = 0; offset = 0; size = 0; child = 0; next = 0 }
-
 module _ (limits : Limits) (k : Bool) (s : List ℕ) (es : List Entry) (good : Accepted limits k s es) where
   -- how many entries a group has; the last may have fewer
   abbrev n : ℕ
@@ -97,122 +110,102 @@ module _ (limits : Limits) (k : Bool) (s : List ℕ) (es : List Entry) (good : A
 
   -- ---- the group that halving leaves
 
-  -- the first name of group g
-  abbrev firstOf : ℕ → List ℕ
-  firstOf g = getD es (g * n) other .name
+  pub entries-counted : length es ≡ countOf s
+  entries-counted = entries-count limits k s (4096 - tailOf s) (countOf s) (headOf k) es (good .entries)
 
-  above-is : (name : List ℕ) (g : ℕ) → g * n < countOf s → groupAbove k s name g ≡ below name (firstOf g)
+  -- the first name of a group is read where its quick word says
+  above-is : (stand : Stand) (g : ℕ) → g * n < countOf s → groupAbove k s stand g ≡ aboveIn n stand es g
   unfolding groupAbove
-  above-is name g l =
+  above-is stand g l =
       let m = countOf s - g * n - 1 in
       let z : countOf s - g * n ≡ suc m = omega arith in
       let e = subst (λ (i : ℕ). entriesAt limits k s (4096 - tailOf s) i (groupAt k s g) ≡ all (drop (g * n) es)) z (group-entries g l) in
       let r = entries-more limits k s (4096 - tailOf s) m (groupAt k s g) (drop (g * n) es) e in
       let i = item-inside limits k s (groupAt k s g) (r .0) (r .2) in
       let y : g * n + 0 ≡ g * n = omega arith in
-      let f : firstOf g ≡ nameOf s (r .0) =
-      ap (λ (j : ℕ). getD es j other .name) (sym y) ∙ ap (λ (d : Entry). d .name) (sym (getD-drop (g * n) es 0 other)) ∙ ap (λ (d : List Entry). getD d 0 other .name) (r .3) in
-      rw (i .read) (ap (below name) (sym f))
-
-  -- the first group, or one whose first name is not above a name
-  abbrev Right : List ℕ → ℕ → Type 0
-  Right name g = (g ≡ 0) ⊎ (below name (firstOf g) ≡ false)
+      let f : nameIn (nth (g * n) es) ≡ nameOf s (r .0) =
+      nth-name (g * n) es ∙ ap (λ (j : ℕ). getD es j other .name) (sym y) ∙ ap (λ (d : Entry). d .name) (sym (getD-drop (g * n) es 0 other)) ∙ ap (λ (d : List Entry). getD d 0 other .name) (r .3) in
+      rw (i .read) (ap (λ (x : List ℕ). isLess (stand x)) (sym f))
 
   abbrev last : ℕ
   last = quickCount n (countOf s)
 
-  last-inside : (g : ℕ) → g ≤ last → g * n < countOf s
+  pub last-inside : (g : ℕ) → g ≤ last → g * n < countOf s
   last-inside g h = let m = le-div-iff-mul-le {k = n} (omega arith) .0 h in omega (arith, good .some)
 
-  pub group-right : (name : List ℕ) (i lo more : ℕ) → lo + more ≤ last → Right name lo
-      → (groupFrom k s name i lo more ≤ last) × Right name (groupFrom k s name i lo more)
-  unfolding groupFrom
-  group-right name zero lo more h r = (omega arith, r)
-  group-right name (suc i) lo more h r =
-      elim (ℕ-discrete more 0) [
-        | yes z ↦ rw (eq-eqb more 0 z) (omega arith, r)
-        | no z ↦ rw (ne-eqb more 0 z) (halved (groupAbove k s name (lo + (more + 1) / 2)) refl
-            (group-right name i lo ((more + 1) / 2 - 1) (omega arith) r)
-            (group-right name i (lo + (more + 1) / 2) (more - (more + 1) / 2) (omega arith)))
-      ]
-    where
-      halved : (t : Bool) → groupAbove k s name (lo + (more + 1) / 2) ≡ t → {a b : ℕ} → (a ≤ last) × Right name a → (Right name (lo + (more + 1) / 2) → (b ≤ last) × Right name b)
-          → (cond t a b ≤ last) × Right name (cond t a b)
-      halved true e x y = x
-      halved false e x y = y (inr (sym (above-is name (lo + (more + 1) / 2) (last-inside (lo + (more + 1) / 2) (omega arith))) ∙ e))
+  -- behind the last group there is no entry
+  pub last-full : countOf s ≤ last * n + n
+  last-full =
+      let m = div-add-mod' (countOf s - 1) n in
+      let b = mod-lt (countOf s - 1) {m = n} (omega arith) in
+      omega (arith, m, b)
 
--- ---- what is sought, from an entry on
+  same-above : (stand : Stand) (g : ℕ) → g ≤ last → groupAbove k s stand g ≡ aboveIn n stand es g
+  same-above stand g h = above-is stand g (last-inside g h)
 
--- what is below y is below a name that y is not above
-passed : (name x y : List ℕ) → below x y ≡ true → below name y ≡ false → compared name x ≡ Greater
-passed name x y h q =
-    let g = not-less names-laws name y (λ p. false≢true (sym q ∙ less-below name y p)) in
-    flip-less names-laws x name (less-notGreater names-laws x y name (below-less x y h) g)
+  pub same-group : (stand : Stand) → groupIn limits k s stand ≡ groupOf n stand es
+  unfolding groupIn
+  same-group stand =
+      halved-same (groupAbove k s stand) (aboveIn n stand es) last (same-above stand) last 0 last (omega arith)
+      ∙ ap (λ (c : ℕ). halved (aboveIn n stand es) (quickCount n c) 0 (quickCount n c)) (sym entries-counted)
 
-module _ (name : List ℕ) (d : Entry) where
-  pub lookup-from : (j : ℕ) (x : List ℕ) (es : List Entry) → rising x es ≡ true → j < length es → below name (getD es j d .name) ≡ false
-      → lookup name es ≡ lookup name (drop j es)
-  unfolding rising lookup matches
-  lookup-from zero x es r h q = refl
-  lookup-from (suc j) x [] r h q = absurd (omega arith)
-  lookup-from (suc j) x (e ∷ es) r h q =
-      let b = rising-more x e es r .1 in
-      rw (passed name (e .name) (getD es j d .name) (rising-at j (e .name) es d b (omega arith)) q) (lookup-from j (e .name) es b (omega arith) q)
+  pub same-halvings : (stand : Stand) → halvingsIn limits k s stand ≡ halvings (aboveIn n stand es) (quickCount n (length es)) 0 (quickCount n (length es))
+  same-halvings stand =
+      halvings-same (groupAbove k s stand) (aboveIn n stand es) last (same-above stand) last 0 last (omega arith)
+      ∙ ap (λ (c : ℕ). halvings (aboveIn n stand es) (quickCount n c) 0 (quickCount n c)) (sym entries-counted)
 
-  choice-head : (e : Entry) (es : List Entry) (before : Sought) → below name (e .name) ≡ false → choice name before (e ∷ es) ≡ choice name absent (e ∷ es)
-  unfolding choice
-  choice-head e es before q = rw q refl
+  -- it is the first or does not begin above the name, and is the last or has one behind it that does
+  abbrev pub Right : Stand → ℕ → Type 0
+  Right stand g = (g ≤ last) × Lower (aboveIn n stand es) g × Upper (aboveIn n stand es) last g
 
-  pub choice-from : (j : ℕ) (x : List ℕ) (es : List Entry) (before : Sought) → rising x es ≡ true → j < length es → below name (getD es j d .name) ≡ false
-      → choice name before es ≡ choice name absent (drop j es)
-  unfolding rising choice below
-  choice-from j x [] before r h q = absurd (omega arith)
-  choice-from zero x (e ∷ es) before r h q = choice-head e es before q
-  choice-from (suc j) x (e ∷ es) before r h q =
-      let b = rising-more x e es r .1 in
-      rw (passed name (e .name) (getD es j d .name) (rising-at j (e .name) es d b (omega arith)) q) (choice-from j (e .name) es (found e) b (omega arith) q)
+  pub group-right : (stand : Stand) → Right stand (groupIn limits k s stand)
+  unfolding groupIn
+  group-right stand =
+      rw (halved-same (groupAbove k s stand) (aboveIn n stand es) last (same-above stand) last 0 last (omega arith))
+      (halved-right (aboveIn n stand es) last last 0 last (omega arith) (omega arith) (omega arith) (inl refl) (inl refl))
 
--- ---- the entries from the group of a name on
+  -- ---- what a name leads to is sought in that group
 
-pub record FromGroup (limits : Limits) (k : Bool) (s : List ℕ) (es : List Entry) (name : List ℕ) (g : ℕ) : Type 0 where
-  pub entries : entriesAt limits k s (4096 - tailOf s) (leftFrom limits s g) (groupAt k s g) ≡ all (drop (g * spacingOf (limits .density)) es)
-  -- they rise, the first above some name
-  pub above : List ℕ
-  pub rises : rising above (drop (g * spacingOf (limits .density)) es) ≡ true
-  pub lookups : lookup name es ≡ lookup name (drop (g * spacingOf (limits .density)) es)
-  pub choices : choice name absent es ≡ choice name absent (drop (g * spacingOf (limits .density)) es)
+  module _ (name : List ℕ) (g : ℕ) (right : Right (compared name) g) where
+    first-is : (i : ℕ) → aboveIn n (compared name) es i ≡ isLess (compared name (getD es (i * n) other .name))
+    first-is i = ap (λ (x : List ℕ). isLess (compared name x)) (nth-name (i * n) es)
 
-pub group-good : (limits : Limits) (k : Bool) (s : List ℕ) (es : List Entry) → Accepted limits k s es → (name : List ℕ) → FromGroup limits k s es name (groupIn limits k s name)
-unfolding groupIn
-group-good limits k s es good name =
-    record {
-      entries = group-entries limits k s es good g inside;
-      above = rising-drop j [] es (good .rises) .0;
-      rises = rising-drop j [] es (good .rises) .1;
-      lookups = same (r .1) .0;
-      choices = same (r .1) .1;
-    }
-  where
-    last-group : ℕ
-    last-group = quickCount (spacingOf (limits .density)) (countOf s)
+    inside : g * n < length es
+    inside = let l = last-inside g (right .0) in omega (arith, entries-counted, l)
 
-    g : ℕ
-    g = groupFrom k s name last-group 0 last-group
+    size : length (drop (g * n) es) ≡ countOf s - g * n
+    size = length-drop (g * n) es ∙ ap (λ (c : ℕ). c - g * n) entries-counted
 
-    j : ℕ
-    j = g * spacingOf (limits .density)
+    -- behind the group's last entry there is none, or one that is above the name
+    ends-last : g ≡ last → Ends name (sizeIn limits s g) (drop (g * n) es)
+    ends-last z = let f : countOf s ≤ g * n + n = rw z last-full in inl (omega (arith, f, size))
 
-    r : (g ≤ last-group) × Right limits k s es good name g
-    r = group-right limits k s es good name last-group 0 last-group (omega arith) (inl refl)
+    ends-before : g < last → aboveIn n (compared name) es (g + 1) ≡ true → Ends name (sizeIn limits s g) (drop (g * n) es)
+    ends-before l a =
+        let i = last-inside (g + 1) (omega arith) in
+        let y : (g + 1) * n ≡ g * n + n = omega arith in
+        let w : sizeIn limits s g ≡ n = omega (arith, i, y) in
+        let b : isLess (compared name (getD (drop (g * n) es) n other .name)) ≡ true =
+        ap (λ (e : Entry). isLess (compared name (e .name))) (getD-drop (g * n) es n other ∙ ap (λ (j : ℕ). getD es j other) (sym y)) ∙ sym (first-is (g + 1)) ∙ a in
+        subst (λ (m : ℕ). Ends name m (drop (g * n) es)) (sym w) (inr (omega (arith, i, y, size), b))
 
-    inside : j < countOf s
-    inside = last-inside limits k s es good g (r .0)
+    ends : Ends name (sizeIn limits s g) (drop (g * n) es)
+    ends = go (right .2)
+      where
+        go : Upper (aboveIn n (compared name) es) last g → Ends name (sizeIn limits s g) (drop (g * n) es)
+        go (inl z) = ends-last z
+        go (inr a) = elim (decLt g last) [ yes l ↦ ends-before l a | no l ↦ ends-last (omega (arith, right .0)) ]
 
-    same : Right limits k s es good name g → (lookup name es ≡ lookup name (drop j es)) × (choice name absent es ≡ choice name absent (drop j es))
-    same (inl z) =
-        let y : 0 ≡ j = omega (arith, ap (λ (x : ℕ). x * spacingOf (limits .density)) z) in
-        (ap (λ (i : ℕ). lookup name (drop i es)) y, ap (λ (i : ℕ). choice name absent (drop i es)) y)
-    same (inr b) =
-        let c = entries-count limits k s (4096 - tailOf s) (countOf s) (headOf k) es (good .entries) in
-        let l : j < length es = omega (arith, inside) in
-        (lookup-from name other j [] es (good .rises) l b, choice-from name other j [] es absent (good .rises) l b)
+    pub group-lookup : lookup name es ≡ lookup name (take (sizeIn limits s g) (drop (g * n) es))
+    group-lookup = go (right .1) ∙ lookup-until name (sizeIn limits s g) (rising-drop (g * n) [] es (good .rises) .0) (drop (g * n) es) (rising-drop (g * n) [] es (good .rises) .1) ends
+      where
+        go : Lower (aboveIn n (compared name) es) g → lookup name es ≡ lookup name (drop (g * n) es)
+        go (inl z) = let y : 0 ≡ g * n = omega (arith, ap (λ (x : ℕ). x * n) z) in ap (λ (i : ℕ). lookup name (drop i es)) y
+        go (inr b) = lookup-from name (g * n) [] es (good .rises) inside (sym (first-is g) ∙ b)
+
+    pub group-choice : choice name absent es ≡ choice name absent (take (sizeIn limits s g) (drop (g * n) es))
+    group-choice = go (right .1) ∙ choice-until name (sizeIn limits s g) (rising-drop (g * n) [] es (good .rises) .0) (drop (g * n) es) absent (rising-drop (g * n) [] es (good .rises) .1) ends
+      where
+        go : Lower (aboveIn n (compared name) es) g → choice name absent es ≡ choice name absent (drop (g * n) es)
+        go (inl z) = let y : 0 ≡ g * n = omega (arith, ap (λ (x : ℕ). x * n) z) in ap (λ (i : ℕ). choice name absent (drop i es)) y
+        go (inr b) = choice-from name (g * n) [] es absent (good .rises) inside (sym (first-is g) ∙ b)

@@ -1,3 +1,7 @@
 pub mod Steps
-pub mod Good
+pub mod Halving
+pub mod Behind
 pub mod Groups
+pub mod Good
+pub mod Counts
+pub mod Examples

@@ -3,25 +3,26 @@
 use mathlib.Core.Path.{_≡_, refl, sym, ap, _∙_}
 use mathlib.Core.List.{List}
 use mathlib.Core.Bool.{Bool, true, false}
-use Prim.Native.Nat.{ℕ, zero, suc, _+_, _-_, _/_, _≤_, _<_}
+use Prim.Native.Nat.{ℕ, zero, suc, _+_, _-_, _≤_, _<_}
 use native.Mathlib.Omega.{arith}
 use native.Mathlib.Decide.{decLe}
 use lib.ListN.{length}
-use borrow.Author.Tests.{eq-eqb, ne-eqb}
-use Rattle.names.specs.Names.{compared}
 use Rattle.names.specs.declared.Order.{Order}
 use Rattle.names.specs.declared.Order.the-variants.{Less, Equal, Greater}
 use Rattle.fields.proofs.Le.{le-past}
 use Rattle.fields.specs.Part.{part}
+use Rattle.encint.specs.declared.Number.{Number}
 use Rattle.encint.specs.declared.Number.the-variants.{Value}
 use Rattle.entries.specs.Entry.{nameAt, indexAt, itemAt, nameOf}
 use Rattle.entries.specs.declared.Limits.{Limits}
 use Rattle.entries.specs.declared.Place.{Place}
 use Rattle.entries.specs.declared.Item.{Item}
 use Rattle.entries.specs.declared.Item.the-variants.{Good, Bad}
-use Rattle.entries.proofs.Laws.{item-inside, item-named}
+use Rattle.entries.proofs.Laws.{item-inside, item-named, item-unnamed}
 use Rattle.chunk.specs.Chunk.{withItem, countOf}
-use Rattle.seek.specs.Seek.{byOrder, groupAbove, groupFrom, findAt, chooseAt, childOf, afterAt}
+use Rattle.seek.specs.Seek.{Stand, byOrder, findAt, chooseAt, childOf, afterAt}
+use Rattle.seek.specs.Count.{comparedAt, walked}
+use Rattle.seek.specs.declared.CountedHit.{CountedHit}
 use Rattle.seek.specs.declared.Child.the-variants.{Below}
 use Rattle.seek.specs.declared.Hit.{Hit}
 use Rattle.seek.specs.declared.Hit.the-variants.{At, Nothing}
@@ -32,66 +33,105 @@ some-left f left h = ap f (omega arith)
 pub none-left : {A : Type 0} (f : ℕ → A) (left : ℕ) → left ≤ 0 → f left ≡ f 0
 none-left f left h = ap f (omega arith)
 
-module _ (limits : Limits) (s name : List ℕ) (left at : ℕ) where
-  pub find-end : left ≤ 0 → findAt limits s name left at ≡ Nothing
-  unfolding findAt
-  find-end h = none-left (λ n. findAt limits s name n at) left h
+-- a hit beside a count
+abbrev beside : Hit → ℕ → CountedHit
+beside h n = record { hit = h; count = n }
 
-  pub find-bad : 0 < left → itemAt limits true s at ≡ Bad → findAt limits s name left at ≡ Nothing
-  unfolding findAt
-  find-bad h g = some-left (λ n. findAt limits s name n at) left h ∙ rw g refl
+no-more : (h : Hit) (count : ℕ) → beside h (count + 0) ≡ beside h count
+no-more h count = let z : count + 0 ≡ count = omega arith in ap (beside h) z
 
-  module _ (e : Place) (h : 0 < left) (g : itemAt limits true s at ≡ Good e) where
-    pub find-above : compared name (nameOf s e) ≡ Less → findAt limits s name left at ≡ Nothing
-    unfolding findAt
-    find-above m = some-left (λ n. findAt limits s name n at) left h ∙ rw (g, m) refl
+one-more : (h : Hit) (count n m : ℕ) → count + 1 ≡ m → beside h (count + suc n) ≡ beside h (m + n)
+one-more h count n m q = let z : count + suc n ≡ m + n = omega (arith, q) in ap (beside h) z
 
-    pub find-here : compared name (nameOf s e) ≡ Equal → findAt limits s name left at ≡ At e
-    unfolding findAt
-    find-here m = some-left (λ n. findAt limits s name n at) left h ∙ rw (g, m) refl
+-- what a search comes to that compared `count` names before
+module _ (limits : Limits) (s : List ℕ) (stand : Stand) where
+  abbrev pub findFrom : ℕ → ℕ → ℕ → CountedHit
+  findFrom count left at = record { hit = findAt limits s stand left at; count = count + walked limits true s stand left at }
 
-    pub find-on : compared name (nameOf s e) ≡ Greater → findAt limits s name left at ≡ findAt limits s name (left - 1) (e .next)
-    unfolding findAt
-    find-on m = some-left (λ n. findAt limits s name n at) left h ∙ rw (g, m) refl
+  abbrev pub chooseFrom : Hit → ℕ → ℕ → ℕ → CountedHit
+  chooseFrom best count left at = record { hit = chooseAt limits s stand best left at; count = count + walked limits false s stand left at }
 
-module _ (limits : Limits) (s name : List ℕ) (best : Hit) (left at : ℕ) where
-  pub choose-end : left ≤ 0 → chooseAt limits s name best left at ≡ best
-  unfolding chooseAt
-  choose-end h = none-left (λ n. chooseAt limits s name best n at) left h
+  -- ---- the entry of a name
 
-  pub choose-bad : 0 < left → itemAt limits false s at ≡ Bad → chooseAt limits s name best left at ≡ best
-  unfolding chooseAt
-  choose-bad h g = some-left (λ n. chooseAt limits s name best n at) left h ∙ rw g refl
+  module _ (count left at : ℕ) where
+    pub find-end : left ≤ 0 → findFrom count left at ≡ record { hit = Nothing; count = count }
+    unfolding findAt walked
+    find-end h = none-left (λ n. findFrom count n at) left h ∙ no-more Nothing count
 
-  module _ (e : Place) (h : 0 < left) (g : itemAt limits false s at ≡ Good e) where
-    pub choose-above : compared name (nameOf s e) ≡ Less → chooseAt limits s name best left at ≡ best
-    unfolding chooseAt
-    choose-above m = some-left (λ n. chooseAt limits s name best n at) left h ∙ rw (g, m) refl
+    pub find-bad : 0 < left → itemAt limits true s at ≡ Bad → findFrom count left at ≡ record { hit = Nothing; count = count }
+    unfolding findAt walked comparedAt
+    find-bad h g = some-left (λ n. findFrom count n at) left h ∙ rw g (no-more Nothing count)
 
-    pub choose-here : compared name (nameOf s e) ≡ Equal → chooseAt limits s name best left at ≡ At e
-    unfolding chooseAt
-    choose-here m = some-left (λ n. chooseAt limits s name best n at) left h ∙ rw (g, m) refl
+    module _ (e : Place) (h : 0 < left) (g : itemAt limits true s at ≡ Good e) (more : ℕ) (q : count + 1 ≡ more) where
+      pub find-above : stand (nameOf s e) ≡ Less → findFrom count left at ≡ record { hit = Nothing; count = more }
+      unfolding findAt walked comparedAt
+      find-above m = some-left (λ n. findFrom count n at) left h ∙ rw (g, m) (ap (beside Nothing) q)
 
-    pub choose-on : compared name (nameOf s e) ≡ Greater → chooseAt limits s name best left at ≡ chooseAt limits s name (At e) (left - 1) (e .next)
-    unfolding chooseAt
-    choose-on m = some-left (λ n. chooseAt limits s name best n at) left h ∙ rw (g, m) refl
+      pub find-here : stand (nameOf s e) ≡ Equal → findFrom count left at ≡ record { hit = At e; count = more }
+      unfolding findAt walked comparedAt
+      find-here m = some-left (λ n. findFrom count n at) left h ∙ rw (g, m) (ap (beside (At e)) q)
 
--- the groups lo to lo + more are left, to be halved n times at most
-module _ (k : Bool) (s name : List ℕ) where
-  pub group-one : (n lo more : ℕ) → more ≤ 0 → groupFrom k s name n lo more ≡ lo
-  unfolding groupFrom
-  group-one zero lo more h = refl
-  group-one (suc n) lo more h = rw (eq-eqb more 0 (omega arith))
+      pub find-on : stand (nameOf s e) ≡ Greater → findFrom count left at ≡ findFrom more (left - 1) (e .next)
+      unfolding findAt walked comparedAt
+      find-on m =
+          some-left (λ n. findFrom count n at) left h
+          ∙ rw (g, m) (one-more (findAt limits s stand (left - 1) (e .next)) count (walked limits true s stand (left - 1) (e .next)) more q)
 
-  module _ (n lo more : ℕ) (h : 0 < more) (f : more ≤ n) where
-    pub group-below : groupAbove k s name (lo + (more + 1) / 2) ≡ true → groupFrom k s name n lo more ≡ groupFrom k s name (n - 1) lo ((more + 1) / 2 - 1)
-    unfolding groupFrom
-    group-below m = some-left (λ i. groupFrom k s name i lo more) n (omega arith) ∙ rw (ne-eqb more 0 (omega arith), m) refl
+  -- ---- the entry to go down from; the name is read first, and compared
 
-    pub group-from : groupAbove k s name (lo + (more + 1) / 2) ≡ false
-        → groupFrom k s name n lo more ≡ groupFrom k s name (n - 1) (lo + (more + 1) / 2) (more - (more + 1) / 2)
-    unfolding groupFrom
-    group-from m = some-left (λ i. groupFrom k s name i lo more) n (omega arith) ∙ rw (ne-eqb more 0 (omega arith), m) refl
+  module _ (best : Hit) (count left at : ℕ) where
+    pub choose-end : left ≤ 0 → chooseFrom best count left at ≡ record { hit = best; count = count }
+    unfolding chooseAt walked
+    choose-end h = none-left (λ n. chooseFrom best count n at) left h ∙ no-more best count
+
+    pub choose-unnamed : 0 < left → nameAt s at ≡ Number.Bad → chooseFrom best count left at ≡ record { hit = best; count = count }
+    unfolding chooseAt walked comparedAt
+    choose-unnamed h q = some-left (λ n. chooseFrom best count n at) left h ∙ rw (item-unnamed limits false s at q, q) (no-more best count)
+
+    module _ (n p : ℕ) (h : 0 < left) (q : nameAt s at ≡ Value n p) (more : ℕ) (r : count + 1 ≡ more) where
+      named-order : (o : Order) → stand (part s p n) ≡ o → (e : Place) → itemAt limits false s at ≡ Good e → stand (nameOf s e) ≡ o
+      named-order o r e g = ap stand (item-named limits false s at n p e q g) ∙ r
+
+      -- above: what stands behind it does not matter
+      pub choose-above : stand (part s p n) ≡ Less → chooseFrom best count left at ≡ record { hit = best; count = more }
+      unfolding chooseAt walked comparedAt
+      choose-above o = some-left (λ i. chooseFrom best count i at) left h ∙ go (itemAt limits false s at) refl
+        where
+          go : (i : Item) → itemAt limits false s at ≡ i → chooseFrom best count (suc (left - 1)) at ≡ record { hit = best; count = more }
+          go Bad g = rw (g, q, o) (ap (beside best) r)
+          go (Good e) g = rw (g, named-order Less o e g, q, o) (ap (beside best) r)
+
+      -- equal: its child
+      pub choose-equal : stand (part s p n) ≡ Equal
+          → (withItem (indexAt (limits .count) s at) (childOf best) (λ e. Below (e .child)) ≡ childOf (chooseAt limits s stand best left at))
+          × (more ≡ count + walked limits false s stand left at)
+      unfolding chooseAt walked comparedAt itemAt
+      choose-equal o =
+          let w : walked limits false s stand (suc (left - 1)) at ≡ 1 = rw (q, o) refl in
+          let v = some-left (λ i. walked limits false s stand i at) left h ∙ w in
+          (go (itemAt limits false s at) refl, omega (arith, v, r))
+        where
+          go : (i : Item) → itemAt limits false s at ≡ i → withItem i (childOf best) (λ e. Below (e .child)) ≡ childOf (chooseAt limits s stand best left at)
+          go Bad g =
+              let w : chooseAt limits s stand best (suc (left - 1)) at ≡ best = rw g refl in
+              ap childOf (sym (some-left (λ i. chooseAt limits s stand best i at) left h ∙ w))
+          go (Good e) g =
+              let w : chooseAt limits s stand best (suc (left - 1)) at ≡ At e = rw (g, named-order Equal o e g) refl in
+              ap childOf (sym (some-left (λ i. chooseAt limits s stand best i at) left h ∙ w))
+
+      -- below, but no entry: the search ends
+      pub choose-barred : stand (part s p n) ≡ Greater → itemAt limits false s at ≡ Bad → chooseFrom best count left at ≡ record { hit = best; count = more }
+      unfolding chooseAt walked comparedAt
+      choose-barred o g = some-left (λ i. chooseFrom best count i at) left h ∙ rw (g, q, o) (ap (beside best) r)
+
+      -- below: it goes on behind it
+      pub choose-on : stand (part s p n) ≡ Greater → (e : Place) → itemAt limits false s at ≡ Good e
+          → chooseFrom best count left at ≡ chooseFrom (At e) more (left - 1) (e .next)
+      unfolding chooseAt walked comparedAt
+      choose-on o e g =
+          some-left (λ i. chooseFrom best count i at) left h
+          ∙ rw (g, named-order Greater o e g, q, o)
+          (one-more (chooseAt limits s stand (At e) (left - 1) (e .next)) count (walked limits false s stand (left - 1) (e .next)) more r)
 
 -- what is no entry ends the walk, however many entries are left
 pub after-bad : (limits : Limits) (k : Bool) (s : List ℕ) (left at : ℕ) → itemAt limits k s at ≡ Bad → afterAt limits k s left at ≡ Nothing
@@ -117,59 +157,30 @@ counted s h =
       | no l ↦ omega arith
     ]
 
--- ---- a turn that reads the name of an index entry first: what it comes to by how the name stands to it
-
-module _ (limits : Limits) (s name : List ℕ) (best : Hit) (left at n p : ℕ) (h : 0 < left) (q : nameAt s at ≡ Value n p) where
-  named-order : (o : Order) → compared name (part s p n) ≡ o → (e : Place) → itemAt limits false s at ≡ Good e → compared name (nameOf s e) ≡ o
-  named-order o r e g = ap (compared name) (item-named limits false s at n p e q g) ∙ r
-
-  -- above: what stands behind it does not matter
-  pub choose-name-above : compared name (part s p n) ≡ Less → chooseAt limits s name best left at ≡ best
-  choose-name-above o = go (itemAt limits false s at) refl
-    where
-      go : (i : Item) → itemAt limits false s at ≡ i → chooseAt limits s name best left at ≡ best
-      go Bad g = choose-bad limits s name best left at h g
-      go (Good e) g = choose-above limits s name best left at e h g (named-order Less o e g)
-
-  -- equal: its child
-  pub choose-name-equal : compared name (part s p n) ≡ Equal
-      → withItem (indexAt (limits .count) s at) (childOf best) (λ e. Below (e .child)) ≡ childOf (chooseAt limits s name best left at)
-  unfolding itemAt
-  choose-name-equal o = go (itemAt limits false s at) refl
-    where
-      go : (i : Item) → itemAt limits false s at ≡ i → withItem i (childOf best) (λ e. Below (e .child)) ≡ childOf (chooseAt limits s name best left at)
-      go Bad g = ap childOf (sym (choose-bad limits s name best left at h g))
-      go (Good e) g = ap childOf (sym (choose-here limits s name best left at e h g (named-order Equal o e g)))
-
-  -- below: the search goes on behind it
-  pub choose-name-below : compared name (part s p n) ≡ Greater → (e : Place) → itemAt limits false s at ≡ Good e
-      → chooseAt limits s name best left at ≡ chooseAt limits s name (At e) (left - 1) (e .next)
-  choose-name-below o e g = choose-on limits s name best left at e h g (named-order Greater o e g)
-
 -- ---- what is found was read in the chunk, so that it lies inside, and its name is the asked one
 
 -- an entry that was read somewhere in the chunk, with a name equal to the asked one
-abbrev pub ReadAs : Limits → List ℕ → List ℕ → Place → Type 0
-ReadAs limits s name e = (p : ℕ) × ((itemAt limits true s p ≡ Good e) × (compared name (nameOf s e) ≡ Equal))
+abbrev pub ReadAs : Limits → List ℕ → Stand → Place → Type 0
+ReadAs limits s stand e = (p : ℕ) × ((itemAt limits true s p ≡ Good e) × (stand (nameOf s e) ≡ Equal))
 
-pub find-read : (limits : Limits) (s name : List ℕ) (e : Place) (n at : ℕ) → findAt limits s name n at ≡ At e → ReadAs limits s name e
+pub find-read : (limits : Limits) (s : List ℕ) (stand : Stand) (e : Place) (n at : ℕ) → findAt limits s stand n at ≡ At e → ReadAs limits s stand e
 unfolding findAt
-find-read limits s name e zero at q = let z : _≡_ {A = ℕ} 0 1 = cc in absurd (omega arith)
-find-read limits s name e (suc n) at q = go (itemAt limits true s at) refl (λ p. find-read limits s name e n p) q
+find-read limits s stand e zero at q = let z : _≡_ {A = ℕ} 0 1 = cc in absurd (omega arith)
+find-read limits s stand e (suc n) at q = go (itemAt limits true s at) refl (λ p. find-read limits s stand e n p) q
   where
-    here : (x : Place) → itemAt limits true s at ≡ Good x → (findAt limits s name n (x .next) ≡ At e → ReadAs limits s name e)
-        → (o : Order) → compared name (nameOf s x) ≡ o → byOrder o Nothing (At x) (findAt limits s name n (x .next)) ≡ At e → ReadAs limits s name e
+    here : (x : Place) → itemAt limits true s at ≡ Good x → (findAt limits s stand n (x .next) ≡ At e → ReadAs limits s stand e)
+        → (o : Order) → stand (nameOf s x) ≡ o → byOrder o Nothing (At x) (findAt limits s stand n (x .next)) ≡ At e → ReadAs limits s stand e
     here x g f Less r q = let z : _≡_ {A = ℕ} 0 1 = cc in absurd (omega arith)
     here x g f Equal r q = let z : x ≡ e = cc in rw (← z) (at, (g, r))
     here x g f Greater r q = f q
 
-    go : (i : Item) → itemAt limits true s at ≡ i → ((p : ℕ) → findAt limits s name n p ≡ At e → ReadAs limits s name e)
-        → withItem i Nothing (λ x. byOrder (compared name (nameOf s x)) Nothing (At x) (findAt limits s name n (x .next))) ≡ At e → ReadAs limits s name e
+    go : (i : Item) → itemAt limits true s at ≡ i → ((p : ℕ) → findAt limits s stand n p ≡ At e → ReadAs limits s stand e)
+        → withItem i Nothing (λ x. byOrder (stand (nameOf s x)) Nothing (At x) (findAt limits s stand n (x .next))) ≡ At e → ReadAs limits s stand e
     go Bad g f q = let z : _≡_ {A = ℕ} 0 1 = cc in absurd (omega arith)
-    go (Good x) g f q = here x g (f (x .next)) (compared name (nameOf s x)) refl q
+    go (Good x) g f q = here x g (f (x .next)) (stand (nameOf s x)) refl q
 
-pub find-inside : (limits : Limits) (s name : List ℕ) (e : Place) (n at : ℕ) → findAt limits s name n at ≡ At e → (e .start + e .len ≤ length s) × (0 < e .len)
-find-inside limits s name e n at q =
-    let r = find-read limits s name e n at q in
+pub find-inside : (limits : Limits) (s : List ℕ) (stand : Stand) (e : Place) (n at : ℕ) → findAt limits s stand n at ≡ At e → (e .start + e .len ≤ length s) × (0 < e .len)
+find-inside limits s stand e n at q =
+    let r = find-read limits s stand e n at q in
     let i = item-inside limits true s (r .0) e (r .1 .0) in
     (i .name, i .some)

@@ -1,12 +1,13 @@
 -- Search in one chunk. First over the list of a chunk's entries, which is what a search means; then over the chunk's bytes, which is how it goes.
 -- The laws of proofs/Good.antt say that on a chunk that passes its check the two are the same.
 -- Assumes nothing.
-use Prim.Native.Nat.{ℕ, zero, suc, _+_, _-_, _*_, _/_, _%_}
+use Prim.Native.Nat.{ℕ, zero, suc, _+_, _-_, _*_, _/_, _%_, min}
 use mathlib.Core.List.{List, [], _∷_}
 use mathlib.Core.Bool.{Bool, true, false, cond}
 use lib.Dec.{ltb, eqb}
 use Rattle.fields.specs.Part.{part}
-use Rattle.names.specs.Names.{compared, below, matches}
+use Rattle.names.specs.Order.{isLess}
+use Rattle.names.specs.Names.{below, matches}
 use Rattle.names.specs.declared.Order.{Order}
 use Rattle.names.specs.declared.Order.the-variants.{Less, Equal, Greater}
 use Rattle.entries.specs.Entry.{withNumber, nameAt, itemAt, nameOf}
@@ -44,72 +45,89 @@ unfoldable pub final : Sought → List Entry → Sought
 final last [] = last
 final last (e ∷ es) = final (found e) es
 
+-- the name of an entry that is there; else no bytes
+abbrev pub nameIn : Sought → List ℕ
+nameIn absent = []
+nameIn (found e) = e .name
+
 -- what an answer says of the chunk s
 abbrev pub soughtOf : List ℕ → Hit → Sought
 soughtOf s Nothing = absent
 soughtOf s (At e) = found (entryOf s e)
 
--- ---- the search over the bytes of a chunk; it ends at the first thing that is no entry
+-- ---- how the asked name stands to another; a search goes by this alone, so that another comparison can be put in
 
--- by how a name stands to another
+abbrev pub Stand : Type 0
+Stand = List ℕ → Order
+
+-- by how it stands
 abbrev pub byOrder : {A : Type 0} → Order → A → A → A → A
 byOrder Less less equal greater = less
 byOrder Equal less equal greater = equal
 byOrder Greater less equal greater = greater
 
--- among n entries from a place on, up to the first whose name is not below a name: that entry, if its name compares equal
-unfoldable pub findAt : Limits → List ℕ → List ℕ → ℕ → ℕ → Hit
-findAt limits s name zero at = Nothing
-findAt limits s name (suc n) at =
-    withItem (itemAt limits true s at) Nothing (λ e. byOrder (compared name (nameOf s e)) Nothing (At e) (findAt limits s name n (e .next)))
+-- ---- halving: groups lo to hi are left (Q9)
+
+-- the group whose first name is compared
+abbrev pub middle : ℕ → ℕ → ℕ
+middle lo hi = lo + (hi - lo + 1) / 2
+
+-- `above g` says that the first name of group g is above the asked one: then the earlier groups are left, else that group and the later ones.
+-- The group that stays, after i comparisons at most; as many as hi - lo are always enough (`halved-enough` of proofs/Halving.antt)
+unfoldable pub halved : (ℕ → Bool) → ℕ → ℕ → ℕ → ℕ
+halved above zero lo hi = lo
+halved above (suc i) lo hi =
+    cond (ltb lo hi) (cond (above (middle lo hi)) (halved above i lo (middle lo hi - 1)) (halved above i (middle lo hi) hi)) lo
+
+-- ---- the search over the bytes of a chunk; it ends at the first thing that is no entry
+
+-- among n entries from a place on, up to the first whose name is not below the asked one (Q10): that entry, if its name compares equal
+unfoldable pub findAt : Limits → List ℕ → Stand → ℕ → ℕ → Hit
+findAt limits s stand zero at = Nothing
+findAt limits s stand (suc n) at =
+    withItem (itemAt limits true s at) Nothing (λ e. byOrder (stand (nameOf s e)) Nothing (At e) (findAt limits s stand n (e .next)))
 
 -- up to the same entry: it, if its name compares equal, else the last before it, with `best` that of the entries before
-unfoldable pub chooseAt : Limits → List ℕ → List ℕ → Hit → ℕ → ℕ → Hit
-chooseAt limits s name best zero at = best
-chooseAt limits s name best (suc n) at =
-    withItem (itemAt limits false s at) best (λ e. byOrder (compared name (nameOf s e)) best (At e) (chooseAt limits s name (At e) n (e .next)))
+unfoldable pub chooseAt : Limits → List ℕ → Stand → Hit → ℕ → ℕ → Hit
+chooseAt limits s stand best zero at = best
+chooseAt limits s stand best (suc n) at =
+    withItem (itemAt limits false s at) best (λ e. byOrder (stand (nameOf s e)) best (At e) (chooseAt limits s stand (At e) n (e .next)))
 
 -- the entry behind j others, the first of which stands at a place
 unfoldable pub afterAt : Limits → Bool → List ℕ → ℕ → ℕ → Hit
 afterAt limits k s zero at = withItem (itemAt limits k s at) Nothing (λ e. At e)
 afterAt limits k s (suc j) at = withItem (itemAt limits k s at) Nothing (λ e. afterAt limits k s j (e .next))
 
--- ---- groups: the first entry and each that has a quick word begin one
+-- ---- groups: the first entry and each that has a quick word begin one (Q8)
 
 -- the place of the entry that quick word g is for; the first entry for 0
 unfoldable pub groupAt : Bool → List ℕ → ℕ → ℕ
 groupAt k s g = cond (eqb g 0) (headOf k) (headOf k + quickWord s g)
 
--- the first name of group g is above a name, or is none
-unfoldable pub groupAbove : Bool → List ℕ → List ℕ → ℕ → Bool
-groupAbove k s name g = withNumber (nameAt s (groupAt k s g)) true (λ len start. below name (part s start len))
+-- the first name of group g is above the asked one, or is none
+unfoldable pub groupAbove : Bool → List ℕ → Stand → ℕ → Bool
+groupAbove k s stand g = withNumber (nameAt s (groupAt k s g)) true (λ len start. isLess (stand (part s start len)))
 
--- of the groups lo to lo + more, the last whose first name is not above a name, or lo; they are halved until one is left, n times at most
-unfoldable pub groupFrom : Bool → List ℕ → List ℕ → ℕ → ℕ → ℕ → ℕ
-groupFrom k s name zero lo more = lo
-groupFrom k s name (suc n) lo more =
-    cond (eqb more 0) lo
-    (cond (groupAbove k s name (lo + (more + 1) / 2))
-    (groupFrom k s name n lo ((more + 1) / 2 - 1))
-    (groupFrom k s name n (lo + (more + 1) / 2) (more - (more + 1) / 2)))
+-- the last group of a chunk
+abbrev pub lastGroup : Limits → List ℕ → ℕ
+lastGroup limits s = quickCount (spacingOf (limits .density)) (countOf s)
 
--- of all groups of a chunk
-unfoldable pub groupIn : Limits → Bool → List ℕ → List ℕ → ℕ
-groupIn limits k s name =
-    groupFrom k s name (quickCount (spacingOf (limits .density)) (countOf s)) 0 (quickCount (spacingOf (limits .density)) (countOf s))
+-- of all groups of a chunk, the one that halving leaves
+unfoldable pub groupIn : Limits → Bool → List ℕ → Stand → ℕ
+groupIn limits k s stand = halved (groupAbove k s stand) (lastGroup limits s) 0 (lastGroup limits s)
 
--- how many entries there are from group g on
-abbrev pub leftFrom : Limits → List ℕ → ℕ → ℕ
-leftFrom limits s g = countOf s - g * spacingOf (limits .density)
+-- how many entries group g has
+abbrev pub sizeIn : Limits → List ℕ → ℕ → ℕ
+sizeIn limits s g = min (spacingOf (limits .density)) (countOf s - g * spacingOf (limits .density))
 
--- ---- the searches of a whole chunk: the groups are halved, and the one that is left is gone through from its front
+-- ---- the searches of a whole chunk: the groups are halved, and the one that is left is gone through from its front, no further than its end
 
-abbrev pub findIn : Limits → List ℕ → List ℕ → Hit
-findIn limits s name = findAt limits s name (leftFrom limits s (groupIn limits true s name)) (groupAt true s (groupIn limits true s name))
+abbrev pub findIn : Limits → List ℕ → Stand → Hit
+findIn limits s stand = findAt limits s stand (sizeIn limits s (groupIn limits true s stand)) (groupAt true s (groupIn limits true s stand))
 
-abbrev pub chooseIn : Limits → List ℕ → List ℕ → Hit
-chooseIn limits s name =
-    chooseAt limits s name Nothing (leftFrom limits s (groupIn limits false s name)) (groupAt false s (groupIn limits false s name))
+abbrev pub chooseIn : Limits → List ℕ → Stand → Hit
+chooseIn limits s stand =
+    chooseAt limits s stand Nothing (sizeIn limits s (groupIn limits false s stand)) (groupAt false s (groupIn limits false s stand))
 
 -- where an index chunk leads: the child of the entry that was chosen
 abbrev pub childOf : Hit → Child

@@ -1,13 +1,16 @@
 // Search in one chunk: the entry of a name, the entry to go down from, entry i. On a chunk that passes its check each is a search in
 // its entries; on other bytes it ends at the first thing that is no entry.
 ghost use mathlib.Core.Path.{_≡_};
-ghost use Prim.Native.Nat.{_≤_, _<_};
+ghost use mathlib.Core.Bool.{true, false};
+ghost use Prim.Native.Nat.{_+_, _-_, _≤_, _<_, min};
 ghost use lib.ListN.{length};
 ghost use Rattle.names.specs.Order.{isLess};
+ghost use Rattle.names.specs.Names.{compared};
 ghost use Rattle.entries.specs.Entry.{indexAt};
 ghost use Rattle.chunk.specs.Chunk.{withItem};
 ghost use Rattle.seek.specs.declared.Child.the-variants.{Below};
-ghost use Rattle.seek.specs.Seek.{groupAt, groupAbove, groupFrom, groupIn, leftFrom, findIn, chooseIn, childOf, afterAt, nthIn, firstIn, lastIn};
+ghost use Rattle.seek.specs.Seek.{groupAt, groupAbove, halved, groupIn, sizeIn, findIn, chooseIn, childOf, afterAt, nthIn, firstIn, lastIn};
+ghost use Rattle.seek.specs.Count.{halvings, halvingsIn, costIn};
 use encint::Number;
 use entries::Item;
 use entries::Limits;
@@ -25,10 +28,29 @@ pub enum Child {
     Nowhere,
 }
 
-// A group of entries: where it begins, and how many entries there are from there on.
+// What a search for a name comes to, and how many names it compared with the asked one.
+pub struct CountedHit {
+    pub hit: Hit,
+    pub count: u32,
+}
+
+// Where an index chunk leads, and how many names were compared with the asked one.
+pub struct CountedChild {
+    pub child: Child,
+    pub count: u32,
+}
+
+// The group that halving leaves, and how many names were compared until then.
+struct Halved {
+    group: usize,
+    count: u32,
+}
+
+// A group of entries: where it begins, how many it has, and how many names were compared to choose it.
 struct Group {
     at: usize,
-    left: usize,
+    size: usize,
+    count: u32,
 }
 
 // Where the entry stands that quick word g is for; the first entry for 0. Whoever knows that the chunk has a count needs no test for reading a word.
@@ -51,7 +73,7 @@ fn group_at(c: &[u8], listing: bool, g: usize) -> usize
 // How a name stands to the first name of group g: `Less` where that is above the name, or there is none.
 fn stands_to(c: &[u8], listing: bool, name: &[u8], g: usize) -> Order
     requires { ⌜ 4094 < length (now c) ⌝ }
-    ensures { λ r. ⌜ isLess r ≡ groupAbove listing (now (c .entry)) (now (name .entry)) g ⌝ }
+    ensures { λ r. ⌜ isLess r ≡ groupAbove listing (now (c .entry)) (compared (now (name .entry))) g ⌝ }
 {
     let Number::Value(n, start) = entries::name_at(c, group_at(c, listing, g)) else {
         return Order::Less;
@@ -62,70 +84,105 @@ fn stands_to(c: &[u8], listing: bool, name: &[u8], g: usize) -> Order
 
 // Of groups 0 to `last`, the one to go through for a name. With an arm for each answer the compiler keeps a branch here, so that the processor reads
 // on in the half that it expects; two arms became a conditional move, which waits for each comparison.
-fn group_of(c: &[u8], listing: bool, name: &[u8], last: usize) -> usize
+fn group_of(c: &[u8], listing: bool, name: &[u8], last: usize) -> Halved
     requires { ⌜ (last < 65536) × (4094 < length (now c)) ⌝ }
-    ensures { λ r. ⌜ (r ≡ groupFrom listing (now (c .entry)) (now (name .entry)) last 0 last) × (r ≤ last) ⌝ }
+    ensures { λ r. ⌜ (r .group ≡ halved (groupAbove listing (now (c .entry)) (compared (now (name .entry)))) last 0 last) × (r .count ≡ halvings (groupAbove listing (now (c .entry)) (compared (now (name .entry)))) last 0 last) × (r .group ≤ last) ⌝ }
 {
     let mut lo: usize = 0;
-    let mut more = last;
-    while 0 < more {
-        let half = (more + 1) / 2;
-        match stands_to(c, listing, name, lo + half) {
-            Order::Less => more = half - 1,
-            Order::Equal => {
-                lo += half;
-                more -= half;
-            }
-            Order::Greater => {
-                lo += half;
-                more -= half;
-            }
+    let mut hi = last;
+    let mut turns: u32 = 0;
+    while lo < hi {
+        let middle = lo + (hi - lo + 1) / 2;
+        turns += 1;
+        match stands_to(c, listing, name, middle) {
+            Order::Less => hi = middle - 1,
+            Order::Equal => lo = middle,
+            Order::Greater => lo = middle,
         }
     }
-    lo
+    Halved {
+        group: lo,
+        count: turns,
+    }
+}
+
+// The smaller of two numbers.
+fn smaller(a: usize, b: usize) -> usize
+    ensures { λ r. ⌜ r ≡ min a b ⌝ }
+{
+    if a < b {
+        return a;
+    }
+    b
 }
 
 // The group of a chunk to go through for a name.
 fn group_for(c: &[u8], limits: Limits, listing: bool, name: &[u8]) -> Group
-    ensures { λ r. ⌜ (r .at ≡ groupAt listing (now (c .entry)) (groupIn limits listing (now (c .entry)) (now (name .entry)))) × (r .left ≡ leftFrom limits (now (c .entry)) (groupIn limits listing (now (c .entry)) (now (name .entry)))) ⌝ }
+    ensures { λ r. ⌜ (r .at ≡ groupAt listing (now (c .entry)) (groupIn limits listing (now (c .entry)) (compared (now (name .entry))))) × (r .size ≡ sizeIn limits (now (c .entry)) (groupIn limits listing (now (c .entry)) (compared (now (name .entry))))) × (r .count ≡ halvingsIn limits listing (now (c .entry)) (compared (now (name .entry)))) ⌝ }
 {
     let total = fields::le16(c, 4094) as usize;
     if total == 0 {
         return Group {
             at: chunk::head(listing),
-            left: 0,
+            size: 0,
+            count: 0,
         };
     }
     let n = chunk::spacing(limits.density);
-    let g = group_of(c, listing, name, (total - 1) / n);
+    let left = group_of(c, listing, name, (total - 1) / n);
     Group {
-        at: group_at(c, listing, g),
-        left: total - g * n,
+        at: group_at(c, listing, left.group),
+        size: smaller(n, total - left.group * n),
+        count: left.count,
     }
 }
 
+// How many names were compared when so many entries of a group are left: those that chose it, and those of the entries before.
+fn spent(group: Group, left: usize) -> u32
+    requires { ⌜ (left ≤ group .size) × (group .size < 65536) × (group .count < 65536) ⌝ }
+    ensures { λ r. ⌜ r ≡ group .count + (group .size - left) ⌝ }
+{
+    group.count + (group.size - left) as u32
+}
+
 // The entry of a listing chunk whose name compares equal.
-pub fn find(c: &[u8], limits: Limits, name: &[u8]) -> Hit
-    ensures { λ r. ⌜ r ≡ findIn limits (now (c .entry)) (now (name .entry)) ⌝ }
+pub fn find(c: &[u8], limits: Limits, name: &[u8]) -> CountedHit
+    ensures { λ r. ⌜ r ≡ record { hit = findIn limits (now (c .entry)) (compared (now (name .entry))); count = costIn limits true (now (c .entry)) (compared (now (name .entry))) } ⌝ }
 {
     let group = group_for(c, limits, true, name);
     let mut at = group.at;
-    let mut left = group.left;
+    let mut left = group.size;
     while 0 < left {
         let Item::Good(e) = entries::listing_at(c, at, limits.content) else {
-            return Hit::Nothing;
+            return CountedHit {
+                hit: Hit::Nothing,
+                count: spent(group, left),
+            };
         };
         let start = e.start;
         let len = e.len;
+        left -= 1;
         match names::compare(name, &c[start..start + len]) {
-            Order::Less => return Hit::Nothing,
-            Order::Equal => return Hit::At(e),
+            Order::Less => {
+                return CountedHit {
+                    hit: Hit::Nothing,
+                    count: spent(group, left),
+                };
+            }
+            Order::Equal => {
+                return CountedHit {
+                    hit: Hit::At(e),
+                    count: spent(group, left),
+                };
+            }
             Order::Greater => {}
         }
         at = e.next;
-        left -= 1;
     }
-    Hit::Nothing
+    CountedHit {
+        hit: Hit::Nothing,
+        count: spent(group, left),
+    }
 }
 
 // The child of the index entry at a place; `before` where there is none.
@@ -138,36 +195,47 @@ fn child_at(c: &[u8], at: usize, count: u64, before: Child) -> Child
     }
 }
 
+// A child, beside how many names were compared when so many entries of a group are left.
+fn child_of(child: Child, group: Group, left: usize) -> CountedChild
+    requires { ⌜ (left ≤ group .size) × (group .size < 65536) × (group .count < 65536) ⌝ }
+    ensures { λ r. ⌜ r ≡ record { child = child; count = group .count + (group .size - left) } ⌝ }
+{
+    CountedChild {
+        child: child,
+        count: spent(group, left),
+    }
+}
+
 // The child of the last entry of an index chunk whose name is not above a name. An entry that the search passes over is not made whole: its name and its child
 // are all that is wanted of it.
-pub fn choose(c: &[u8], limits: Limits, name: &[u8]) -> Child
-    ensures { λ r. ⌜ r ≡ childOf (chooseIn limits (now (c .entry)) (now (name .entry))) ⌝ }
+pub fn choose(c: &[u8], limits: Limits, name: &[u8]) -> CountedChild
+    ensures { λ r. ⌜ r ≡ record { child = childOf (chooseIn limits (now (c .entry)) (compared (now (name .entry)))); count = costIn limits false (now (c .entry)) (compared (now (name .entry))) } ⌝ }
 {
     let group = group_for(c, limits, false, name);
     let mut best = Child::Nowhere;
     let mut at = group.at;
-    let mut left = group.left;
+    let mut left = group.size;
     while 0 < left {
         let Number::Value(n, from) = entries::name_at(c, at) else {
-            return best;
+            return child_of(best, group, left);
         };
         let behind = from + n as usize;
+        left -= 1;
         match names::compare(name, &c[from..behind]) {
-            Order::Less => return best,
-            Order::Equal => return child_at(c, at, limits.count, best),
+            Order::Less => return child_of(best, group, left),
+            Order::Equal => return child_of(child_at(c, at, limits.count, best), group, left),
             Order::Greater => {}
         }
         let Number::Value(child, next) = encint::read(c, behind) else {
-            return best;
+            return child_of(best, group, left);
         };
         if limits.count <= child {
-            return best;
+            return child_of(best, group, left);
         }
         best = Child::Below(child);
         at = next;
-        left -= 1;
     }
-    best
+    child_of(best, group, left)
 }
 
 // The entry behind `past` others, the first of which stands at `from`.

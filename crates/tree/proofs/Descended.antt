@@ -2,7 +2,7 @@
 -- A level is written `suc l`. Assumes nothing.
 use mathlib.Core.Path.{_≡_, refl, ap, subst}
 use mathlib.Core.Logic.{_⊎_, inl, inr}
-use mathlib.Core.Bool.{true, false}
+use mathlib.Core.Bool.{Bool, true, false, cond}
 use mathlib.Core.List.{List, [], _∷_, _++_, flatMap}
 use Prim.Native.Nat.{ℕ, zero, suc, _<_, _≤_}
 use native.Mathlib.Omega.{arith}
@@ -12,7 +12,7 @@ use Rattle.names.proofs.Laws.{below-trans}
 use Rattle.chunk.specs.Chunk.{Entry, Parsed, entriesIn}
 use Rattle.seek.specs.Seek.{Sought, lookup, choice, nth}
 use Rattle.tree.specs.Lists.{In, Each, allOf}
-use Rattle.tree.specs.Shape.{Shape, isListing, firstName, GoodChunks}
+use Rattle.tree.specs.Shape.{Shape, isListing, firstName, GoodChunks, indexChunk}
 use Rattle.tree.specs.Tree.{leaves, shaped}
 use Rattle.tree.specs.Descent.{Outcome, found, absent, answer, childFor, onward, outcomeFrom, trailFrom}
 use Rattle.tree.specs.Demand.{Holds}
@@ -112,7 +112,7 @@ module _ (D : ℕ → Parsed) (H : Shape) (good : GoodChunks D H) (name : List �
       let o : childFor name (D c) ≡ Sought.found (k .0) = rw (f .2) (k .1) in
       let x = child-is D H l (k .0) (all-in (childOk D H l) (entriesIn (D c)) (t .1) (k .0) (rw (f .2) (k .2))) in
       let e : below name (firstName (D (k .0 .child))) ≡ false = rw (← x .0) (k .3) in
-      rw o (ap suc (trail-deep l (k .0 .child) (x .1) e))
+      rw (t .0, o) (ap suc (trail-deep l (k .0 .child) (x .1) e))
 
   -- one that is below it ends there
   pub trail-high : (l c : ℕ) → shaped D H (suc l) c ≡ true → below name (firstName (D c)) ≡ true → length (trailFrom D H name (suc l) c) ≡ 1
@@ -124,7 +124,7 @@ module _ (D : ℕ → Parsed) (H : Shape) (good : GoodChunks D H) (name : List �
       let b′ : below name (f .0 .name) ≡ true = rw (f .2) at b in
       let r : Each Before (f .0 ∷ f .1) = rw (f .2) at (rising-each [] (entriesIn (D c)) (good .rises c i)) in
       let o : childFor name (D c) ≡ Sought.absent = rw (f .2) (choice-above name Sought.absent (f .0 ∷ f .1) (go (f .0) (f .1) b′ r)) in
-      rw o
+      rw (shaped-index D H l c s .0, o) refl
     where
       go : (d : Entry) (ds : List Entry) → below name (d .name) ≡ true → Each Before (d ∷ ds) → (e : Entry) → In e (d ∷ ds) → below name (e .name) ≡ true
       go d ds b r e (inl q) = rw q b
@@ -135,8 +135,10 @@ pub trail-bound : (D : ℕ → Parsed) (H : Shape) (name : List ℕ) (l c : ℕ)
 unfolding trailFrom
 trail-bound D H name zero c = omega arith
 trail-bound D H name (suc zero) c = omega arith
-trail-bound D H name (suc (suc l)) c = go (childFor name (D c)) (λ k. trail-bound D H name (suc l) k)
+trail-bound D H name (suc (suc l)) c = go (indexChunk D H c) (childFor name (D c)) (λ k. trail-bound D H name (suc l) k)
   where
-    go : (o : Sought) → ((k : ℕ) → length (trailFrom D H name (suc l) k) ≤ suc l) → suc (length (onward o [] (λ k. trailFrom D H name (suc l) k))) ≤ suc (suc l)
-    go Sought.absent h = omega arith
-    go (Sought.found e) h = let b = h (e .child) in omega arith
+    go : (t : Bool) (o : Sought) → ((k : ℕ) → length (trailFrom D H name (suc l) k) ≤ suc l)
+        → suc (length (cond t (onward o [] (λ k. trailFrom D H name (suc l) k)) [])) ≤ suc (suc l)
+    go false o h = omega arith
+    go true Sought.absent h = omega arith
+    go true (Sought.found e) h = let b = h (e .child) in omega arith

@@ -5,6 +5,7 @@ use mathlib.Core.Logic.{inl, inr}
 use mathlib.Core.Bool.{true}
 use mathlib.Core.List.{List}
 use Prim.Native.Nat.{ℕ, zero, suc}
+use Rattle.names.specs.Names.{compared}
 use Rattle.entries.specs.declared.Limits.{Limits}
 use Rattle.chunk.specs.Chunk.{Parsed, parsed, entriesIn}
 use Rattle.seek.specs.Seek.{Sought, soughtOf, chooseIn}
@@ -28,7 +29,7 @@ module _ (limits : Limits) (bytes : ℕ → List ℕ) (H : Shape) (name : List �
       rw (h, find-good limits (bytes c) name (listing-chunk D H c h .1)) refl
   fetch-shaped (suc l) c s =
       let h = shaped-index D H l c s .0 in
-      let q : soughtOf (bytes c) (chooseIn limits (bytes c) name) ≡ childFor name (D c) = choose-good limits (bytes c) name (index-chunk D H c h .1) in
+      let q : soughtOf (bytes c) (chooseIn limits (bytes c) (compared name)) ≡ childFor name (D c) = choose-good limits (bytes c) name (index-chunk D H c h .1) in
       elim (choice-in name Sought.absent (entriesIn (D c))) [
         | inl z ↦ rw (h, q, z) refl
         | inr k ↦ rw (h, q, k .1) (fetch-shaped l (k .0 .child) (shaped-child D H l c s (k .0) (k .2)))

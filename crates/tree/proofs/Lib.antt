@@ -17,3 +17,4 @@ pub mod Examples
 pub mod Reading
 pub mod Plain
 pub mod Fetch
+pub mod Same

@@ -10,9 +10,8 @@ use Rattle.names.specs.Names.{below, matches}
 use Rattle.names.proofs.Laws.{below-trans}
 use Rattle.chunk.specs.Chunk.{Entry, rising}
 use Rattle.chunk.proofs.Rising.{rising-more}
-use Rattle.seek.specs.Seek.{Sought, absent, found, lookup, choice, nth, final}
+use Rattle.seek.specs.Seek.{Sought, absent, found, lookup, choice, nth, nameIn, final}
 use Rattle.tree.specs.Lists.{In, Each}
-use Rattle.tree.specs.Shape.{nameIn}
 use Rattle.tree.proofs.Lists.{onTest}
 use Rattle.tree.proofs.Alike.{before-equal}
 

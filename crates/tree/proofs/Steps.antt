@@ -129,14 +129,14 @@ module _ (D : ℕ → Parsed) (H : Shape) (name : List ℕ) where
   unfolding outcomeFrom trailFrom
   descent-absent zero c z h q = absurd (omega arith)
   descent-absent (suc zero) c z h q = absurd (omega arith)
-  descent-absent (suc (suc l)) c z h q = (rw (h, q), rw q)
+  descent-absent (suc (suc l)) c z h q = (rw (h, q), rw (h, q))
 
   pub descent-child : (l c : ℕ) (x : Entry) → 1 < l → indexChunk D H c ≡ true → childFor name (D c) ≡ Sought.found x
       → (outcomeFrom D H name l c ≡ outcomeFrom D H name (l - 1) (x .child)) × (trailFrom D H name l c ≡ c ∷ trailFrom D H name (l - 1) (x .child))
   unfolding outcomeFrom trailFrom
   descent-child zero c x z h q = absurd (omega arith)
   descent-child (suc zero) c x z h q = absurd (omega arith)
-  descent-child (suc (suc l)) c x z h q = (rw (h, q, sub-one (suc (suc l))), rw (q, sub-one (suc (suc l))))
+  descent-child (suc (suc l)) c x z h q = (rw (h, q, sub-one (suc (suc l))), rw (h, q, sub-one (suc (suc l))))
 
 -- ---- where the search in an index chunk leads
 

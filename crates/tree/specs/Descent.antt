@@ -35,11 +35,11 @@ module _ (D : ℕ → Parsed) (H : Shape) (name : List ℕ) where
   outcomeFrom (suc zero) c = cond (listingChunk D H c) (answer c (lookup name (entriesIn (D c)))) refused
   outcomeFrom (suc (suc l)) c = cond (indexChunk D H c) (onward (childFor name (D c)) absent (λ k. outcomeFrom (suc l) k)) refused
 
-  -- the chunks, that at which it starts and each child that it takes (Q6)
+  -- the chunks, that at which it starts and each child that it takes (Q6); a chunk that is refused is the last
   unfoldable pub trailFrom : ℕ → ℕ → List ℕ
   trailFrom zero c = []
   trailFrom (suc zero) c = c ∷ []
-  trailFrom (suc (suc l)) c = c ∷ onward (childFor name (D c)) [] (λ k. trailFrom (suc l) k)
+  trailFrom (suc (suc l)) c = c ∷ cond (indexChunk D H c) (onward (childFor name (D c)) [] (λ k. trailFrom (suc l) k)) []
 
   -- the whole descent begins at the top (Q1), whose level is the depth
   unfoldable pub outcome : Outcome

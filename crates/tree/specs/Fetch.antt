@@ -2,6 +2,7 @@
 -- Assumes nothing.
 use mathlib.Core.List.{List}
 use Prim.Native.Nat.{ℕ, zero, suc}
+use Rattle.names.specs.Names.{compared}
 use Rattle.entries.specs.declared.Limits.{Limits}
 use Rattle.seek.specs.Seek.{soughtOf, findIn, chooseIn}
 use Rattle.tree.specs.Descent.{Outcome, absent, answer, onward}
@@ -11,5 +12,5 @@ use Rattle.tree.specs.Descent.{Outcome, absent, answer, onward}
 module _ (limits : Limits) (bytes : ℕ → List ℕ) (name : List ℕ) where
   unfoldable pub fetchFrom : ℕ → ℕ → Outcome
   fetchFrom zero c = absent
-  fetchFrom (suc zero) c = answer c (soughtOf (bytes c) (findIn limits (bytes c) name))
-  fetchFrom (suc (suc l)) c = onward (soughtOf (bytes c) (chooseIn limits (bytes c) name)) absent (λ k. fetchFrom (suc l) k)
+  fetchFrom (suc zero) c = answer c (soughtOf (bytes c) (findIn limits (bytes c) (compared name)))
+  fetchFrom (suc (suc l)) c = onward (soughtOf (bytes c) (chooseIn limits (bytes c) (compared name))) absent (λ k. fetchFrom (suc l) k)

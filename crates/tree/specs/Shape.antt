@@ -7,7 +7,7 @@ use Prim.Native.Nat.{ℕ, _<_}
 use lib.Dec.{ltb}
 use lib.ListN.{length}
 use Rattle.chunk.specs.Chunk.{Parsed, bad, listing, index, rising, entriesIn, isKind}
-use Rattle.seek.specs.Seek.{Sought, absent, found, nth, final}
+use Rattle.seek.specs.Seek.{absent, nth, nameIn, final}
 
 -- ---- the header's numbers (FORMAT D8 to D11)
 
@@ -40,11 +40,6 @@ abbrev pub nextOf : Parsed → ℕ
 nextOf (bad n) = noChunk
 nextOf (listing prev next es) = next
 nextOf (index es) = noChunk
-
--- the name of an entry that is there; else no bytes
-abbrev pub nameIn : Sought → List ℕ
-nameIn absent = []
-nameIn (found e) = e .name
 
 -- the name of entry 0, and that of the last entry
 abbrev pub firstName : Parsed → List ℕ

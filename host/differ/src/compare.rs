@@ -2,6 +2,7 @@
 //! lent place.
 
 mod batch;
+mod lookup;
 mod opened;
 mod order;
 mod own;
@@ -12,8 +13,8 @@ use crate::lent::Lent;
 use crate::{inputs, library, padding};
 use second::generate::{Call, Input};
 use second::{
-    chunk_entries, diff_frames, frames, lookup, open, part, scan, start, step, Answer, Cursor,
-    Record, Refusal, Reply, Report, Step, NONE,
+    chunk_entries, diff_frames, frames, lookup, open, part, scan, start, step, Cursor, Record,
+    Refusal, Reply, Report, Step, NONE,
 };
 
 /// What the library answers for no refusal, and where it has nothing to tell: an absent name, the
@@ -162,10 +163,10 @@ fn lookup_disagrees(
     let Searched {
         search, row, entry, ..
     } = searched;
-    let (mut trail, mut answer) = ([0; 5], [0; 6]);
+    let (mut trail, mut answer) = ([0; 5], [0; 7]);
     let numbers = record_numbers(record);
     let got = library::lookup(file, &numbers, name, &mut trail, &mut answer);
-    let same = got == searched.got && (got != DONE || answer[1..] == entry[..]);
+    let same = got == searched.got && (got != DONE || answer[1..6] == entry[..]);
     (!same).then(|| {
         let (lookup, other) = (answer_text(got), answer_text(searched.got));
         format!("library, FORMAT {row}: lookup {lookup} {answer:?}, {search} {other} {entry:?}")
@@ -234,72 +235,6 @@ impl Differ {
         Both::new(answer, got).lent(record.difference())
     }
 
-    fn lookup(&mut self, asked: &Asked, record: &Record, name: &[u8], places: usize) -> Both {
-        let mut answer = Lent::new("answer", 6);
-        let mut trail = Lent::new("trail", places);
-        let told = lookup(asked.file, record, name, places);
-        let expected = match &told {
-            Answer::Found {
-                report,
-                trail: descent,
-            } => {
-                trail.expect(descent);
-                let numbers = [&[descent.len() as u64][..], &report_numbers(report)].concat();
-                answer.expect(&numbers);
-                DONE
-            }
-            Answer::Absent { trail: descent } => {
-                trail.expect(descent);
-                answer.expect(&[descent.len() as u64]);
-                NOTHING
-            }
-            Answer::Refused(refusal) => code(*refusal),
-        };
-        self.count_lookup(asked, record, name, places, &told);
-
-        let mut lent_record = lent(record);
-        let mut lent_name = Lent::with("name", name);
-        let got = library::lookup(
-            asked.file,
-            lent_record.lend_array(),
-            lent_name.lend(),
-            trail.lend(),
-            answer.lend_array(),
-        );
-        Both::new(expected, got)
-            .lent(answer.difference())
-            .lent(trail.difference())
-            .lent(lent_record.difference())
-            .lent(lent_name.difference())
-    }
-
-    fn count_lookup(
-        &mut self,
-        asked: &Asked,
-        record: &Record,
-        name: &[u8],
-        places: usize,
-        told: &Answer,
-    ) {
-        let answer = reply_text(told.reply());
-        self.coverage.count("lookup", answer);
-        let places = match places {
-            0..=7 => coverage::number(places as u8),
-            _ => "more places",
-        };
-        self.coverage.count("trail", places);
-        self.count_name("asked name", asked, name, told.reply());
-        self.count_descent(record, told);
-        if !matches!(answer, "15" | "16") {
-            self.count_made_up(
-                "lookup with a record of no book",
-                asked,
-                record,
-                answer != "17",
-            );
-        }
-    }
-
     fn count_name(&mut self, group: &'static str, asked: &Asked, name: &[u8], told: Reply) {
         match name.len() {
             0 => self.coverage.count(group, "0 bytes"),
@@ -317,20 +252,6 @@ impl Differ {
                 self.coverage.count(group, "found in a padded entry");
             }
         }
-    }
-
-    fn count_descent(&mut self, record: &Record, told: &Answer) {
-        const DESCENTS: [&str; 5] = ["1 chunk", "2 chunks", "3 chunks", "4 chunks", "5 chunks"];
-        let (trail, absent) = match told {
-            Answer::Found { trail, .. } => (trail, false),
-            Answer::Absent { trail } => (trail, true),
-            Answer::Refused(_) => return,
-        };
-        let name = match absent && (trail.len() as u64) < record.depth {
-            true => "ends in an index chunk",
-            false => DESCENTS[trail.len() - 1],
-        };
-        self.coverage.count("descent", name);
     }
 
     fn scan(&mut self, asked: &Asked, record: &Record, name: &[u8]) -> Both {

@@ -1,6 +1,6 @@
 //! What came up in a run, counted, and what has to come up in a complete one.
 
-use crate::{batches, inputs, library, padding};
+use crate::{batches, counted, inputs, library, padding};
 use second::generate::{self, comparison, pairs};
 use std::cmp::Ordering;
 use std::collections::BTreeMap;
@@ -49,6 +49,22 @@ const BATCH: &[&str] = &[
 ];
 
 const ASKING: &[&str] = &["answered", "17"];
+
+/// The chunks of a descent, by their number.
+const CHUNKS: &[&str] = &["1", "2", "3", "4", "5"];
+
+/// Where an asked name stands in a chunk of a descent.
+const STANDING: &[&str] = &[
+    "below all names",
+    "the first name of the first group",
+    "the first name of a later group",
+    "the last name of a full group",
+    "another name of a group",
+    "between two names of a group",
+    "between two groups",
+    "above all names, the last group full",
+    "above all names, the last group not full",
+];
 
 const NAME: &[&str] = &[
     "0 bytes",
@@ -423,6 +439,61 @@ const GROUPS: &[(&str, &[&str])] = &[
             "ends in an index chunk",
         ],
     ),
+    (
+        "groups of a chunk of a descent",
+        &[
+            "1",
+            "2",
+            "3",
+            "4 or a higher power of 2",
+            "5 or more, no power of 2",
+        ],
+    ),
+    ("asked name in an index chunk", STANDING),
+    ("asked name in a listing chunk", STANDING),
+    ("halvings in a chunk of a descent", &["h", "h - 1"]),
+    (
+        "chunk of a descent that reaches the bound",
+        &[
+            "density 0",
+            "density 1",
+            "density 2",
+            "density 3",
+            "density 4",
+            "density 5",
+            "density 6",
+            "density 7",
+            "h = 0",
+            "h = 1",
+            "h = 2",
+            "h = 3",
+            "h = 4",
+            "h = 5",
+            "h = 6",
+            "h = 7",
+            "h = 8",
+            "h = 9",
+            "with a padded number",
+        ],
+    ),
+    ("every chunk reaches the bound, found", CHUNKS),
+    ("every chunk reaches the bound, absent", CHUNKS),
+    (
+        "bytes that agree in the chunks of a lookup alone",
+        &[
+            "beside a book that opens",
+            "beside other bytes",
+            "absent in an index chunk",
+            "15",
+            "16",
+        ],
+    ),
+    ("found in bytes that agree in so many chunks alone", CHUNKS),
+    ("absent in bytes that agree in so many chunks alone", CHUNKS),
+    (
+        "17 in bytes that agree in so many chunks alone",
+        &["0", "1", "2", "3", "4", "5"],
+    ),
     ("step onto", &["the same chunk", "another chunk", "the end"]),
     (
         "places for a page",
@@ -546,9 +617,11 @@ impl Coverage {
         let sides = groups
             .into_iter()
             .flat_map(|(group, labels)| labels.into_iter().map(move |label| (group, label)));
+        let counted = generate::counted::labels().into_iter();
+        let counted = counted.map(|(extent, label)| (counted::group(extent), label));
         let order = answers.chain(padded).chain(extremes);
         let order = order.chain(ways).chain(cases);
-        let order: Vec<_> = order.chain(sides).collect();
+        let order: Vec<_> = order.chain(sides).chain(counted).collect();
         Coverage {
             counts: order.iter().map(|&key| (key, 0)).collect(),
             order,

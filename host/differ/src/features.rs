@@ -36,17 +36,19 @@ pub fn count(coverage: &mut Coverage, file: &[u8], record: &Record) {
     }
 }
 
+/// The kinds of densities, by density.
+pub const DENSITIES: [&str; 8] = [
+    "density 0",
+    "density 1",
+    "density 2",
+    "density 3",
+    "density 4",
+    "density 5",
+    "density 6",
+    "density 7",
+];
+
 fn numbers(coverage: &mut Coverage, record: &Record) {
-    const DENSITIES: [&str; 8] = [
-        "density 0",
-        "density 1",
-        "density 2",
-        "density 3",
-        "density 4",
-        "density 5",
-        "density 6",
-        "density 7",
-    ];
     const DEPTHS: [&str; 5] = ["depth 1", "depth 2", "depth 3", "depth 4", "depth 5"];
     let version = if record.version == 2 {
         "version 2"

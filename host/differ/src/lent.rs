@@ -60,8 +60,13 @@ impl<T: Mark> Lent<T> {
 
     /// The front of the slice has to become this; the rest stays.
     pub fn expect(&mut self, values: &[T]) {
-        let length = self.places.len() - 2 * GUARD;
-        self.expected[GUARD..GUARD + length][..values.len()].copy_from_slice(values);
+        self.expect_at(0, values);
+    }
+
+    /// The same from a place on.
+    pub fn expect_at(&mut self, place: usize, values: &[T]) {
+        let end = self.places.len() - GUARD;
+        self.expected[GUARD..end][place..place + values.len()].copy_from_slice(values);
     }
 
     pub fn lend(&mut self) -> &mut [T] {
@@ -131,6 +136,17 @@ mod tests {
         assert!(told(|lent| lent.lend()[2] = 0));
         assert!(told(|lent| lent.places[GUARD - 1] = 0));
         assert!(told(|lent| lent.places[GUARD + 3] = 0));
+    }
+
+    #[test]
+    fn places_in_front_stay() {
+        let mut lent = Lent::<u64>::new("answer", 3);
+        lent.expect_at(2, &[7]);
+        assert!(lent.difference().is_some());
+        lent.lend()[2] = 7;
+        assert_eq!(lent.difference(), None);
+        lent.lend()[1] = 7;
+        assert!(lent.difference().is_some());
     }
 
     #[test]

@@ -5,6 +5,7 @@
 
 mod batches;
 mod compare;
+mod counted;
 mod course;
 mod coverage;
 mod diff;
@@ -18,7 +19,9 @@ mod padding;
 mod pairs;
 mod program;
 mod run;
+mod searches;
 mod sides;
+mod twins;
 
 use compare::Differ;
 use program::Programs;

@@ -58,7 +58,7 @@ impl Number {
 
 /// An entry as it stands: its name, and its numbers, the name's length first.
 pub struct Entry<'a> {
-    name: &'a [u8],
+    pub name: &'a [u8],
     pub numbers: Vec<Number>,
 }
 

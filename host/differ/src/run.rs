@@ -2,7 +2,7 @@
 
 use crate::compare::{Asked, Differ};
 use crate::program::Programs;
-use crate::{course, coverage, diff, features};
+use crate::{counted, course, coverage, diff, features, twins};
 use second::generate::pairs::{pairs, Pair};
 use second::generate::questions::{about, names_in, questions};
 use second::generate::{self, Aim, Call, Case, Input, Random};
@@ -13,6 +13,9 @@ const PROGRAM_RUNS: u64 = 32;
 
 /// Changes the seed for the pairs of names.
 const PAIRS: u64 = u64::from_be_bytes(*b"in order");
+
+/// Changes the seed for lookups in other bytes that agree in their chunks.
+const TWINS: u64 = u64::from_be_bytes(*b"the same");
 
 /// Content that is appended to a head to read it back has at most this length.
 const CONTENT: u64 = 65_536;
@@ -35,6 +38,7 @@ pub fn run(
 ) -> Result<(), Difference> {
     ask(differ, programs, seed, index)?;
     course::run(differ, seed, index)?;
+    counted::run(differ, seed, index)?;
     diff::run(differ, programs, seed, index)
 }
 
@@ -54,9 +58,11 @@ fn ask(differ: &mut Differ, programs: &Programs, seed: u64, index: u64) -> Resul
     let asked = Asked::new(&case.file);
     let mut calls = vec![case.call.clone()];
     calls.extend(questions(random, &case));
+    let other = &mut Random::of_case(seed ^ TWINS, index);
     for call in &calls {
         let told = differ.compare(&asked, call);
-        told.map_err(|answers| failed(shown(&case.file, call), answers))?;
+        told.and_then(|()| twins::ask_some(differ, other, &asked, call))
+            .map_err(|answers| failed(shown(&case.file, call), answers))?;
     }
     if case.file != before {
         let told = "changed by the library".to_owned();
@@ -184,7 +190,7 @@ fn count_read_back(differ: &mut Differ, file: &[u8], record: &Record) {
 }
 
 /// What was asked, without the file, which a seed and a number make again.
-fn shown(file: &[u8], call: &Call) -> String {
+pub fn shown(file: &[u8], call: &Call) -> String {
     let text = shortened(format!("{call:?}"));
     format!("{text} of a file of {} bytes", file.len())
 }

@@ -3,7 +3,7 @@
 use std::ffi::{OsStr, OsString};
 use std::os::unix::ffi::OsStrExt;
 
-use hodsplinter::{Book, Chain, Entry, Refusal, Trail};
+use hodsplinter::{Book, Chain, Entry, Lookup, Refusal, Trail};
 
 use crate::args::{flag, valued, Given, Spec};
 use crate::finding;
@@ -12,11 +12,12 @@ use crate::names::Names;
 use crate::output::Output;
 use crate::progress::Progress;
 use crate::status::{Status, Trouble};
-use crate::text::shown;
+use crate::text::{many, shown};
 
-pub const OPTIONS: [Spec; 3] = [
+pub const OPTIONS: [Spec; 4] = [
     flag("chain", None),
     flag("trail", None),
+    flag("count", None),
     valued("names", None),
 ];
 
@@ -41,9 +42,11 @@ pub fn run(given: &Given, out: &mut Output) -> Result<Status, Trouble> {
 
 /// The book, and the names that stand beside it on the command line.
 fn operands(given: &Given) -> Result<(&OsStr, &[OsString]), Trouble> {
-    if given.has("chain") && given.has("trail") {
-        let why = "find: --chain and --trail exclude each other";
-        return Err(Trouble::usage(why));
+    for other in ["trail", "count"] {
+        if given.has("chain") && given.has(other) {
+            let why = format!("find: --chain and --{other} exclude each other");
+            return Err(Trouble::usage(why));
+        }
     }
     let listed = given.value("names");
     match given.operands.split_first() {
@@ -61,10 +64,31 @@ fn operands(given: &Given) -> Result<(&OsStr, &[OsString]), Trouble> {
 enum Way<'a> {
     /// From the root down.
     Index(Book<'a>),
-    /// The same, and the chunks on the way are told.
-    Trail(Book<'a>),
+    /// The same, and more is told of the way.
+    Descent(Book<'a>, Asked),
     /// From the first listing chunk on.
     Chain(Chain<'a>),
+}
+
+/// What is to be told of a descent.
+struct Asked {
+    trail: bool,
+    count: bool,
+}
+
+impl Asked {
+    /// Behind the answer: the chunks that were opened, and how many comparisons it took.
+    fn told(&self, answer: &Lookup) -> String {
+        let mut text = String::new();
+        if self.trail {
+            text.push_str(&format!("; {}", opened(&answer.trail())));
+        }
+        if self.count {
+            let count = many(answer.comparisons(), "comparison", "comparisons");
+            text.push_str(&format!("; {count}"));
+        }
+        text
+    }
 }
 
 /// The way that is asked for. A broken index, which the chain does without, is told and gives the status.
@@ -76,8 +100,12 @@ fn open<'a>(
 ) -> Result<(Way<'a>, Status), Trouble> {
     if !given.has("chain") {
         let book = input::open(path, bytes)?;
-        let way = if given.has("trail") {
-            Way::Trail(book)
+        let asked = Asked {
+            trail: given.has("trail"),
+            count: given.has("count"),
+        };
+        let way = if asked.trail || asked.count {
+            Way::Descent(book, asked)
         } else {
             Way::Index(book)
         };
@@ -94,14 +122,13 @@ fn open<'a>(
 }
 
 impl<'a> Way<'a> {
-    /// The entry of a name, and the chunks that were opened, as far as they are told.
+    /// The entry of a name, and what is told of the way to it.
     fn find(&self, name: &[u8]) -> Result<(Option<Entry<'a>>, String), Refusal> {
         match self {
             Way::Index(book) => Ok((book.find(name)?, String::new())),
-            Way::Trail(book) => {
+            Way::Descent(book, asked) => {
                 let answer = book.lookup(name)?;
-                let chunks = format!("; {}", opened(&answer.trail()));
-                Ok((answer.entry(), chunks))
+                Ok((answer.entry(), asked.told(&answer)))
             }
             Way::Chain(chain) => Ok((chain.scan(name)?, String::new())),
         }
@@ -135,9 +162,9 @@ fn all_told(way: &Way, mut names: Names, out: &mut Output) -> Result<Status, Tro
 fn told(way: &Way, name: &[u8]) -> Result<(Status, String), Refusal> {
     let asked = shown(name);
     Ok(match way.find(name)? {
-        (Some(entry), chunks) => {
+        (Some(entry), descent) => {
             let text = format!(
-                "{asked}: found{}, section {}, offset {}, length {}{chunks}",
+                "{asked}: found{}, section {}, offset {}, length {}{descent}",
                 stored_name(&entry, name),
                 entry.section(),
                 entry.offset(),
@@ -145,7 +172,7 @@ fn told(way: &Way, name: &[u8]) -> Result<(Status, String), Refusal> {
             );
             (Status::Good, text)
         }
-        (None, chunks) => (Status::Refused, format!("{asked}: absent{chunks}")),
+        (None, descent) => (Status::Refused, format!("{asked}: absent{descent}")),
     })
 }
 

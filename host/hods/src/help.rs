@@ -47,7 +47,8 @@ that do not print are written as \\xNN, a backslash as \\\\.
 ";
 
 pub const FIND: &str = "\
-Usage: hods find [--chain | --trail] [--names FILE] BOOK [NAME]..
+Usage: hods find [--trail] [--count] [--names FILE] BOOK [NAME]..
+       hods find --chain [--names FILE] BOOK [NAME]..
 
 Looks each name up and says section, offset and length of its entry, or that it
 is absent. The letters A to Z and a to z are the same in a name.
@@ -55,6 +56,7 @@ is absent. The letters A to Z and a to z are the same in a name.
       --names FILE       look up the names in this file too, a line each, behind
                          those that are given; - is standard input
       --trail            print the numbers of the chunks opened on the way too
+      --count            print how many times the name was compared too
       --chain            look along the chain of listing chunks, without the
                          index. A book that only refusal 14, a broken index,
                          keeps from opening is told so and searched all the same

@@ -84,7 +84,8 @@ impl<'a> Book<'a> {
         Ok(found.then(|| Entry::of(self.file, &answer)))
     }
 
-    /// The same with the trail: the numbers of the chunks that the descent went through. It checks each of them again, so that it is slower than [`Book::find`].
+    /// The same with the trail, the numbers of the chunks that the descent went through, and how many comparisons of the name it took. It checks each of these chunks
+    /// again, so that it is slower than [`Book::find`].
     ///
     /// ```
     /// let file = std::fs::read("../../samples/several.chm")?;
@@ -92,20 +93,25 @@ impl<'a> Book<'a> {
     /// let answer = book.lookup("/zones.htm")?;
     /// assert_eq!(answer.entry().unwrap().name(), b"/Zones.htm");
     /// assert_eq!(*answer.trail(), [6, 1, 3]);
+    /// assert_eq!(answer.comparisons(), 8);
     /// assert_eq!(book.lookup("/no-such-page")?.entry(), None);
     /// assert_eq!(book.lookup("").unwrap_err().number(), 15);
     /// # Ok::<(), Box<dyn std::error::Error>>(())
     /// ```
     pub fn lookup(&self, name: impl AsRef<[u8]>) -> Result<Lookup<'a>, Refusal> {
-        let (mut trail, mut answer) = ([0; sys::TRAIL], [0; 6]);
+        let (mut trail, mut answer) = ([0; sys::TRAIL], [0; sys::LOOKUP]);
         let record = self.record.numbers();
         let found = sys::lookup(self.file, &record, name.as_ref(), &mut trail, &mut answer)?;
-        let trail = Trail::of(trail, answer[0]);
+        let [chunks, entry @ .., comparisons] = &answer;
+        let (trail, comparisons) = (Trail::of(trail, *chunks), *comparisons);
         if !found {
-            return Ok(Lookup::Absent { trail });
+            return Ok(Lookup::Absent { trail, comparisons });
         }
-        let entry = Entry::of(self.file, &answer[1..]);
-        Ok(Lookup::Found { entry, trail })
+        Ok(Lookup::Found {
+            entry: Entry::of(self.file, entry),
+            trail,
+            comparisons,
+        })
     }
 
     /// Looks a name up along the chain from the first listing chunk on, without the index. It checks every chunk up to the one that holds the name, so

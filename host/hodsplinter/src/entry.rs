@@ -165,11 +165,15 @@ pub enum Lookup<'a> {
         entry: Entry<'a>,
         /// The chunks of the descent; the last one holds the entry.
         trail: Trail,
+        /// How many comparisons of the name it took.
+        comparisons: u64,
     },
     /// No listing chunk of the book holds the name.
     Absent {
         /// The chunks of the descent.
         trail: Trail,
+        /// How many comparisons of the name it took.
+        comparisons: u64,
     },
 }
 
@@ -185,7 +189,25 @@ impl<'a> Lookup<'a> {
     /// The chunks of the descent, found or absent.
     pub fn trail(&self) -> Trail {
         match self {
-            Lookup::Found { trail, .. } | Lookup::Absent { trail } => *trail,
+            Lookup::Found { trail, .. } | Lookup::Absent { trail, .. } => *trail,
+        }
+    }
+
+    /// How many comparisons of the asked name with one of the book it took, in all chunks of the descent (docs/FORMAT.md, K26); a name that it was compared with
+    /// twice counts twice, what the check of a chunk compares does not count. Found or absent, a chunk takes at most h + n: n is 1 + 2^density, h the least whole
+    /// number for which 2^h is at least 1 + the number of the chunk's quick words (Q12).
+    ///
+    /// ```
+    /// let file = std::fs::read("../../samples/sample.chm")?;
+    /// let book = hodsplinter::Book::open(&file)?; // it holds / and /a.htm
+    /// assert_eq!(book.lookup("/")?.comparisons(), 1);
+    /// assert_eq!(book.lookup("/A.htm")?.comparisons(), 2);
+    /// assert_eq!(book.lookup("/b")?.comparisons(), 2);
+    /// # Ok::<(), Box<dyn std::error::Error>>(())
+    /// ```
+    pub fn comparisons(&self) -> u64 {
+        match self {
+            Lookup::Found { comparisons, .. } | Lookup::Absent { comparisons, .. } => *comparisons,
         }
     }
 }

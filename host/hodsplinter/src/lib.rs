@@ -6,8 +6,8 @@
 //! itself. Limits and refusals are those of docs/FORMAT.md, cited here by their rows.
 //!
 //! - [`Book::open`] checks a whole file and gives a [`Book`], or the first [`Refusal`].
-//! - [`Book::find`] finds an entry by its name, [`Book::lookup`] also tells the chunks of the descent, [`Book::scan`] does without the index; [`Book::entries`] lists
-//!   all entries.
+//! - [`Book::find`] finds an entry by its name, [`Book::lookup`] also tells the chunks of the descent and counts comparisons, [`Book::scan`] does without the index;
+//!   [`Book::entries`] lists all entries.
 //! - [`batch`] opens a book and looks many names up, in one call.
 //! - [`compare`] lays two books side by side and gives each [`Change`], in the order of names.
 //! - [`Chain::open`] takes books with a broken index too, for scans alone.

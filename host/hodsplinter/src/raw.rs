@@ -8,6 +8,9 @@
 /// How many numbers a record has: `HODS_RECORD` of the header.
 pub const RECORD: usize = 11;
 
+/// How many numbers a lookup answers: `HODS_LOOKUP` of the header.
+pub const LOOKUP: usize = 7;
+
 extern "C" {
     fn hods_name_order(a: *const u8, a_len: usize, b: *const u8, b_len: usize) -> u64;
     fn hods_open(file: *const u8, len: usize, record: *mut u64) -> u64;
@@ -111,7 +114,7 @@ pub fn lookup(
     record: &[u64; RECORD],
     name: &[u8],
     trail: &mut [u32],
-    answer: &mut [u64; 6],
+    answer: &mut [u64; LOOKUP],
 ) -> u64 {
     unsafe {
         hods_lookup(

@@ -1,7 +1,7 @@
 //! The C functions with their answers: done, or 255, or the refusal.
 
 use crate::raw;
-pub use crate::raw::RECORD;
+pub use crate::raw::{LOOKUP, RECORD};
 use crate::refusal::Refusal;
 
 /// How many numbers an entry has: the name's place and length, section, offset, length.
@@ -46,7 +46,7 @@ pub fn lookup(
     record: &[u64; RECORD],
     name: &[u8],
     trail: &mut [u32; TRAIL],
-    answer: &mut [u64; 6],
+    answer: &mut [u64; LOOKUP],
 ) -> Told {
     told(raw::lookup(file, record, name, trail, answer))
 }

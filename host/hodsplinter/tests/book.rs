@@ -113,7 +113,7 @@ fn every_name_is_found() {
         assert_eq!((answer.entry(), answer.trail().len()), (None, 3));
     }
     match book.lookup("!").unwrap() {
-        Lookup::Absent { trail } => assert_eq!(*trail, [6]),
+        Lookup::Absent { trail, .. } => assert_eq!(*trail, [6]),
         found => panic!("{found:?}"),
     }
     for size in [0, 1025, 100_000] {

@@ -3,15 +3,34 @@
 use crate::chunk::{read_chunk, Chunk, Entry, Limits, Stored, CHUNK};
 use crate::name::compare;
 use crate::open::DIRECTORY_HEADER;
+use crate::search::comparisons;
 use crate::{require, Answer, Cursor, Listed, Record, Refusal, Reply, Report, Step, NONE};
 use std::cmp::Ordering;
 
 /// Looks a name up. `places` is the length of the trail that a caller lends; the answer's trail
-/// is what is to be written to its front (FORMAT K3 to K6, RO5).
+/// is what is to be written to its front (FORMAT K3 to K6, K26, RO5).
 pub fn lookup(file: &[u8], record: &Record, name: &[u8], places: usize) -> Answer {
+    looked_up(file, record, name, places, &mut Vec::new())
+}
+
+/// The chunks that a lookup looks at, one that it refuses last (FORMAT K27). Of that one alone the
+/// number may be not below the count, and its bytes need not be inside the file.
+pub fn met(file: &[u8], record: &Record, name: &[u8], places: usize) -> Vec<u64> {
+    let mut met = Vec::new();
+    looked_up(file, record, name, places, &mut met);
+    met
+}
+
+fn looked_up(
+    file: &[u8],
+    record: &Record,
+    name: &[u8],
+    places: usize,
+    met: &mut Vec<u64>,
+) -> Answer {
     require_name(name)
         .and_then(|()| require(places >= 5, 16))
-        .and_then(|()| descend(file, record, name))
+        .and_then(|()| descend(file, record, name, met))
         .unwrap_or_else(Answer::Refused)
 }
 
@@ -29,27 +48,28 @@ pub(crate) fn require_record(file: &[u8], record: &Record) -> Result<(), Refusal
     require(good, 17)
 }
 
-/// The descent for a name (FORMAT Q1 to Q6).
-fn descend(file: &[u8], record: &Record, name: &[u8]) -> Result<Answer, Refusal> {
+/// The descent for a name (FORMAT Q1 to Q6, Q11). Its chunks are put into `met` one by one.
+fn descend(
+    file: &[u8],
+    record: &Record,
+    name: &[u8],
+    met: &mut Vec<u64>,
+) -> Result<Answer, Refusal> {
     let book = Asked::new(file, record)?;
     let mut level = record.depth;
     let mut at = match level {
         1 => record.first,
         _ => record.root,
     };
-    let mut trail = Vec::new();
+    let mut count = 0;
     loop {
+        met.push(at);
         let chunk = book.meet(at)?;
-        trail.push(at as u32); // below the count, as it was met
+        count += comparisons(&chunk.names(), record.density, name);
         match chunk {
             Chunk::Listing { entries, .. } if level == 1 => {
-                return Ok(match holding(&entries, name) {
-                    Some(entry) => Answer::Found {
-                        report: book.listed(at, entry).report,
-                        trail,
-                    },
-                    None => Answer::Absent { trail },
-                });
+                let report = holding(&entries, name).map(|entry| book.listed(at, entry).report);
+                return Ok(answer(report, met, count));
             }
             Chunk::Index { entries } if level > 1 => {
                 let taken = entries
@@ -57,12 +77,25 @@ fn descend(file: &[u8], record: &Record, name: &[u8]) -> Result<Answer, Refusal>
                     .rfind(|entry| compare(entry.name, name) != Ordering::Greater);
                 match taken {
                     Some(entry) => at = entry.value,
-                    None => return Ok(Answer::Absent { trail }),
+                    None => return Ok(answer(None, met, count)),
                 }
                 level -= 1;
             }
             _ => return Err(Refusal::new(17)), // the wrong kind for its level
         }
+    }
+}
+
+/// Found or absent, behind a descent through these chunks.
+fn answer(report: Option<Report>, met: &[u64], comparisons: u64) -> Answer {
+    let trail = met.iter().map(|&at| at as u32).collect(); // each is below the count
+    match report {
+        Some(report) => Answer::Found {
+            report,
+            trail,
+            comparisons,
+        },
+        None => Answer::Absent { trail, comparisons },
     }
 }
 

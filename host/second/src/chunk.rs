@@ -55,6 +55,13 @@ impl<'a> Chunk<'a> {
             Chunk::Index { entries } => entries[0].name,
         }
     }
+
+    pub fn names(&self) -> Vec<&'a [u8]> {
+        match self {
+            Chunk::Listing { entries, .. } => entries.iter().map(|entry| entry.name).collect(),
+            Chunk::Index { entries } => entries.iter().map(|entry| entry.name).collect(),
+        }
+    }
 }
 
 /// From which entry to which the quick words step (FORMAT C5).

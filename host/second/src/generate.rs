@@ -7,6 +7,7 @@
 pub mod ask;
 pub mod book;
 pub mod comparison;
+pub mod counted;
 pub mod damage;
 pub mod large;
 pub mod names;
@@ -16,9 +17,13 @@ pub mod pairs;
 pub mod plan;
 pub mod questions;
 mod random;
+mod ranked;
+pub mod standing;
+mod twin;
 pub mod write;
 
 pub use random::Random;
+pub use twin::{kept, twin};
 
 use crate::{
     batch, chunk_entries, lookup, lookup_opened, open, own, scan, step, write_head, Cursor,

@@ -17,9 +17,10 @@ mod name;
 mod number;
 mod open;
 mod opened;
+mod search;
 mod write;
 
-pub use ask::{chunk_entries, chunk_listed, lookup, own, part, scan, start, step};
+pub use ask::{chunk_entries, chunk_listed, lookup, met, own, part, scan, start, step};
 pub use batch::{batch, batch_after, batch_names, ANSWER};
 pub use chunk::quick_words;
 pub use comparison::{
@@ -30,6 +31,7 @@ pub use name::{compare, order};
 pub use number::{encint, read_encint};
 pub use open::open;
 pub use opened::{lookup_opened, stands_there, Expected};
+pub use search::{comparisons, most_comparisons};
 pub use write::write_head;
 
 /// Stands for no chunk where a chunk number is expected, and for no place in a refusal.
@@ -98,16 +100,24 @@ pub struct Report {
     pub size: u64,
 }
 
-/// What lookup answers; the trail holds the chunks of the descent in order (FORMAT K4, Q6).
+/// What lookup answers; the trail holds the chunks of the descent in order (FORMAT K4, Q6), and the
+/// comparisons are those of all these chunks (FORMAT K26).
 #[derive(Debug, Clone, PartialEq, Eq)]
 pub enum Answer {
-    Found { report: Report, trail: Vec<u32> },
-    Absent { trail: Vec<u32> },
+    Found {
+        report: Report,
+        trail: Vec<u32>,
+        comparisons: u64,
+    },
+    Absent {
+        trail: Vec<u32>,
+        comparisons: u64,
+    },
     Refused(Refusal),
 }
 
 impl Answer {
-    /// The same without the trail.
+    /// The same without the trail and the comparisons.
     pub fn reply(&self) -> Reply {
         match self {
             Answer::Found { report, .. } => Reply::Found(*report),

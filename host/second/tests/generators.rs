@@ -95,7 +95,7 @@ fn check_good(random: &mut Random, book: &Book) {
         let asked = other_case(random, name).unwrap_or(name.clone());
         for name in [name, &asked] {
             match lookup(&file, &record, name, 5) {
-                Answer::Found { report, trail } => {
+                Answer::Found { report, trail, .. } => {
                     assert_eq!(report, reports[at]);
                     assert_eq!(trail.len() as u64, record.depth);
                     assert!(trail[0] == book.root || record.depth == 1);
@@ -222,7 +222,7 @@ fn lookups_agree_with_the_listing() {
                 assert_eq!(Some(report), held);
                 found += 1;
             }
-            Answer::Absent { trail } => {
+            Answer::Absent { trail, .. } => {
                 assert_eq!(None, held);
                 assert!(trail.len() == 1 || trail.len() as u64 == record.depth);
                 absent += 1;

@@ -261,12 +261,16 @@ fn sample_book_is_read() {
         lookup(&file, &record, b"/A.HTM", 5),
         Answer::Found {
             report: PAGE,
-            trail: trail.clone()
+            trail: trail.clone(),
+            comparisons: 2,
         }
     );
     assert_eq!(
         lookup(&file, &record, b"/a.ht", 5),
-        Answer::Absent { trail }
+        Answer::Absent {
+            trail,
+            comparisons: 2,
+        }
     );
     assert_eq!(part(&file, 230, 6), b"/a.htm");
     assert_eq!(part(&file, 4300, 5), b"12345");
@@ -315,7 +319,8 @@ fn padded_book_is_read() {
         lookup(&file, &record, b"/A.HTM", 5),
         Answer::Found {
             report: reports[1],
-            trail
+            trail,
+            comparisons: 2,
         }
     );
     assert_eq!(scan(&file, &record, b"/"), Reply::Found(reports[0]));
@@ -598,8 +603,11 @@ fn scans_that_meet_no_listing_chunk() {
         root: 1,
         ..record
     };
-    let trail = vec![1, 0];
-    assert_eq!(lookup(&file, &tree, b"c", 5), Answer::Absent { trail });
+    let absent = Answer::Absent {
+        trail: vec![1, 0],
+        comparisons: 2,
+    };
+    assert_eq!(lookup(&file, &tree, b"c", 5), absent);
     assert_eq!(scan(&file, &tree, b"a"), letter(b'a', 0, 0));
     assert_eq!(scan(&file, &tree, b"c"), REFUSED);
     for first in [1, 2, 0xFFFF_FFFF, 1 << 32, u64::MAX] {

@@ -28,27 +28,27 @@ returns c =
 find-in-requires : tie.Need-find-in-requires
 find-in-requires c κs = search needs
 
-enum-known-x : tie.Need-enum-known-x
-enum-known-x c = search needs
+enum-known-count : tie.Need-enum-known-count
+enum-known-count c = search needs
 
-enum-told : tie.Need-enum-told
-enum-told c = search needs
+enum-known-spent : tie.Need-enum-known-spent
+enum-known-spent c = search needs
 
 returns-2 : tie.Need-returns-2
 returns-2 c =
     let f = c .before .before .before in
     let k = f .before in
     let a = k .before .before .before .before .before .before .args in
-    search-found (now (a .file)) (a .book) (now (a .name)) (a .c) (linked-is k .below) _ (sym (f .find-in .ensures) ∙ c .before .x .given .1)
+    search-found (now (a .file)) (a .book) (now (a .name)) (a .c) (linked-is k .below) _ _ (sym (f .find-in .ensures) ∙ c .before .count .given .1)
 
 returns-3 : tie.Need-returns-3
 returns-3 c =
-    let f = c .before .before in
+    let f = c .before .before .before in
     let k = f .before in
     let a = k .before .before .before .before .before .before .args in
-    search-next (now (a .file)) (a .book) (now (a .name)) (a .c) (linked-is k .below) _ (linked-is k .next-is) (sym (f .find-in .ensures) ∙ c .enum-told .given .1)
+    search-next (now (a .file)) (a .book) (now (a .name)) (a .c) (linked-is k .below) _ _ (linked-is k .next-is) (sym (f .find-in .ensures) ∙ c .before .spent .given .1)
 
 pub search-in-spec : {M : Type 1} → statement M
 search-in-spec =
     tie.close
-    (tie.spec met-requires enum-known-next returns find-in-requires enum-known-x enum-told returns-2 returns-3)
+    (tie.spec met-requires enum-known-next returns find-in-requires enum-known-count enum-known-spent returns-2 returns-3)

@@ -3,6 +3,7 @@ use Prim.Native.Nat.{ℕ, _≤_}
 use native.Mathlib.Omega.{arith}
 use denote.Ref.{now}
 use borrow.Author.Needs.{needs}
+use Rattle.seek.specs.declared.CountedChild.{CountedChild}
 use Rattle.lookup.specs.Reply.{replyTo}
 use Rattle.fetch.specs.Fetch.{fetchAt}
 use Rattle.fetch.proofs.Steps.{go-down, go-nowhere}
@@ -34,7 +35,7 @@ returns c =
     let f = c .before .before in
     let l = f .before .before in
     let a = l .before .before .before .args in
-    sym (go-nowhere (now (a .file)) (a .book) (now (a .name)) (l .loop .left) (l .loop .at) (omega arith) (sym (f .child-in .ensures) ∙ c .enum-told .given .1))
+    sym (go-nowhere (now (a .file)) (a .book) (now (a .name)) (l .loop .left) (l .loop .at) (omega arith) (sym (ap (λ (r : CountedChild). r .child) (f .child-in .ensures)) ∙ c .enum-told .given .1))
     ∙ l .loop .inv .1
 
 sub-left : tie.Need-sub-left Inv-loop μ-loop
@@ -50,7 +51,8 @@ loop-again c =
     let l = f .before .before in
     let a = l .before .before .before .args in (
       omega arith,
-      sym (go-down (now (a .file)) (a .book) (now (a .name)) (l .loop .left) (l .loop .at) (omega arith) (e .child .given .0 .0) (sym (f .child-in .ensures) ∙ e .child .given .1))
+      sym (go-down (now (a .file)) (a .book) (now (a .name)) (l .loop .left) (l .loop .at) (omega arith) (e .child .given .0 .0)
+          (sym (ap (λ (r : CountedChild). r .child) (f .child-in .ensures)) ∙ e .child .given .1))
           ∙ l .loop .inv .1,
     )
 

@@ -18,13 +18,13 @@ returns : tie.Need-returns
 returns c =
     let f = c .before .before .before in
     let a = f .before .before .before .args in
-    leaf-found (now (a .file)) (a .book) (now (a .name)) (a .c) _ (sym (f .find-in .ensures) ∙ c .before .x .given .1)
+    leaf-found (now (a .file)) (a .book) (now (a .name)) (a .c) _ _ (sym (f .find-in .ensures) ∙ c .before .x .given .1)
 
 returns-2 : tie.Need-returns-2
 returns-2 c =
     let f = c .before .before in
     let a = f .before .before .before .args in
-    leaf-absent (now (a .file)) (a .book) (now (a .name)) (a .c) (sym (f .find-in .ensures) ∙ c .enum-told .given .1)
+    leaf-absent (now (a .file)) (a .book) (now (a .name)) (a .c) _ (sym (f .find-in .ensures) ∙ c .enum-told .given .1)
 
 pub fetch-leaf-spec : {M : Type 1} → statement M
 fetch-leaf-spec = tie.close (tie.spec find-in-requires enum-known-x enum-told returns returns-2)

@@ -1,5 +1,5 @@
 use borrow.Author.Needs.{needs}
-use mathlib.Core.Path.{_≡_, refl, sym, ap, _∙_}
+use mathlib.Core.Path.{sym, _∙_}
 use Rattle.hodsplinter.proofs.hods_lookup.Statement.{statement}
 use Rattle.hodsplinter.proofs.hods_lookup.Tie as tie
 
@@ -9,20 +9,29 @@ record-in-requires c κs = search needs
 lookup-requires : tie.Need-lookup-requires
 lookup-requires c κs = search needs
 
-enum-known-x : tie.Need-enum-known-x
-enum-known-x c = search needs
+enum-known-n : tie.Need-enum-known-n
+enum-known-n c = search needs
 
 cast-t15 : tie.Need-cast-t15
 cast-t15 c = search needs
 
-enum-known-n : tie.Need-enum-known-n
-enum-known-n c = search needs
+cast-t16 : tie.Need-cast-t16
+cast-t16 c = search needs
+
+enum-known-spent : tie.Need-enum-known-spent
+enum-known-spent c = search needs
 
 cast-answer : tie.Need-cast-answer
 cast-answer c = search needs
 
 element-write-answer : tie.Need-element-write-answer
 element-write-answer c = search needs
+
+cast-answer-2 : tie.Need-cast-answer-2
+cast-answer-2 c = search needs
+
+element-write-answer-2 : tie.Need-element-write-answer-2
+element-write-answer-2 c = search needs
 
 enum-known-r : tie.Need-enum-known-r
 enum-known-r c = search needs
@@ -35,9 +44,9 @@ same-length c = search needs
 
 returns : tie.Need-returns
 returns c =
-    let k = c .before .before .before .before .before .before in
+    let k = c .before .before .before .before .before .before .before .before in
     let q = k .before .before .record-in .ensures in
-    let z = rw q at (sym (k .lookup .ensures .0) ∙ c .before .before .x .given .1) in
+    let z = rw q at (sym (k .lookup .ensures .0) ∙ c .before .before .before .before .n .given .1) in
     let w = rw q at (k .lookup .ensures .1 .0) in
     (rw z, (w, rw z))
 
@@ -46,9 +55,9 @@ same-length-2 c = search needs
 
 returns-2 : tie.Need-returns-2
 returns-2 c =
-    let k = c .before .before .before .before .before in
+    let k = c .before .before .before .before .before .before .before in
     let q = k .before .before .record-in .ensures in
-    let z = rw q at (sym (k .lookup .ensures .0) ∙ c .before .n .given .1) in
+    let z = rw q at (sym (k .lookup .ensures .0) ∙ c .before .before .before .spent .given .1) in
     let w = rw q at (k .lookup .ensures .1 .0) in
     (rw z, (w, rw z))
 
@@ -69,11 +78,14 @@ hods-lookup-spec =
     (tie.spec
     record-in-requires
     lookup-requires
-    enum-known-x
-    cast-t15
     enum-known-n
+    cast-t15
+    cast-t16
+    enum-known-spent
     cast-answer
     element-write-answer
+    cast-answer-2
+    element-write-answer-2
     enum-known-r
     code-requires
     same-length

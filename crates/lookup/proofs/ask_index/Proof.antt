@@ -44,13 +44,13 @@ returns-2 : tie.Need-returns-2
 returns-2 c =
     let f = c .before .before .before in
     let a = f .before .before .before .before .before .before .args in
-    index-down (now (a .file)) (a .book) (now (a .name)) (a .c) (is-index (f .before)) _ (sym (f .child-in .ensures) ∙ c .before .child .given .1)
+    index-down (now (a .file)) (a .book) (now (a .name)) (a .c) (is-index (f .before)) (f .child-in .result) _ (f .child-in .ensures) (c .before .child .given .1)
 
 returns-3 : tie.Need-returns-3
 returns-3 c =
     let f = c .before .before in
     let a = f .before .before .before .before .before .before .args in
-    index-ends (now (a .file)) (a .book) (now (a .name)) (a .c) (is-index (f .before)) (sym (f .child-in .ensures) ∙ c .enum-told2 .given .1)
+    index-ends (now (a .file)) (a .book) (now (a .name)) (a .c) (is-index (f .before)) (f .child-in .result) (f .child-in .ensures) (c .enum-told2 .given .1)
 
 pub ask-index-spec : {M : Type 1} → statement M
 ask-index-spec = tie.close (tie.spec met-requires enum-told returns child-in-requires enum-known-child enum-told-2 returns-2 returns-3)

@@ -33,7 +33,7 @@ returns c =
     let k = e .before .before in
     let l = k .before .before in
     let a = l .before .before .before .args in
-    sym (turn-here (now (a .file)) (a .book) (now (a .name)) (l .loop .left) (l .loop .c) (omega arith) _ (sym (k .search-in .ensures) ∙ e .x .given .1)) ∙ l .loop .inv
+    sym (turn-here (now (a .file)) (a .book) (now (a .name)) (l .loop .left) (l .loop .c) (omega arith) _ _ (sym (k .search-in .ensures) ∙ e .x .given .1)) ∙ l .loop .inv
 
 enum-known-next : tie.Need-enum-known-next Inv-loop μ-loop
 enum-known-next c = search needs
@@ -48,7 +48,7 @@ returns-2 c =
     let k = e .before .before in
     let l = k .before .before in
     let a = l .before .before .before .args in
-    sym (turn-end (now (a .file)) (a .book) (now (a .name)) (l .loop .left) (l .loop .c) (omega arith) _ (sym (k .search-in .ensures) ∙ e .next .given .1)
+    sym (turn-end (now (a .file)) (a .book) (now (a .name)) (l .loop .left) (l .loop .c) (omega arith) _ _ (sym (k .search-in .ensures) ∙ e .next .given .1)
     (c .if1 .taken ∙ n .no-chunk .ensures)) ∙ l .loop .inv
 
 cast-c : tie.Need-cast-c Inv-loop μ-loop
@@ -83,7 +83,7 @@ loop-again c =
     let k = e .before .before in
     let l = k .before .before in
     let a = l .before .before .before .args in
-    sym (ap (replyTo (a .book)) (turn-on (now (a .file)) (a .book) (now (a .name)) (l .loop .left) (l .loop .c) (omega arith) _
+    sym (ap (replyTo (a .book)) (turn-on (now (a .file)) (a .book) (now (a .name)) (l .loop .left) (l .loop .c) (omega arith) _ _
     (sym (k .search-in .ensures) ∙ e .next .given .1) (λ z. c .if1 .left (z ∙ sym (n .no-chunk .ensures))))) ∙ l .loop .inv
 
 refuse-requires-2 : tie.Need-refuse-requires-2 Inv-loop μ-loop

@@ -1,23 +1,53 @@
 use borrow.Author.Needs.{needs}
-use mathlib.Core.Path.{_≡_, sym, _∙_}
+use mathlib.Core.Path.{_≡_, sym, ap, _∙_}
 use mathlib.Core.Bool.{true}
+use Prim.Native.Nat.{ℕ, _+_, _-_, _≤_, _<_}
 use native.Mathlib.Nat.{add-sub-cancel-left}
 use native.Mathlib.Omega.{arith}
 use denote.Ref.{now}
+use Rattle.fields.proofs.Le.{le-lt}
 use Rattle.names.specs.Names.{compared}
 use Rattle.entries.specs.Entry.{itemAt, nameOf}
 use Rattle.entries.specs.declared.Item.the-variants.{Good, Bad}
 use Rattle.entries.proofs.Laws.{Inside, item-inside}
-use Rattle.seek.specs.Seek.{findAt, findIn}
-use Rattle.seek.proofs.Steps.{find-end, find-bad, find-above, find-here, find-on}
+use Rattle.seek.specs.Seek.{groupAt, groupIn, sizeIn, findIn}
+use Rattle.seek.specs.Count.{halvingsIn, costIn}
+use Rattle.seek.specs.declared.CountedHit.{CountedHit}
+use Rattle.seek.specs.declared.Hit.{Hit}
+use Rattle.seek.specs.declared.Hit.the-variants.{At, Nothing}
+use Rattle.seek.proofs.Counts.{spentIn, spent-next, spent-is, spent-fits}
+use Rattle.seek.proofs.Steps.{findFrom, find-end, find-bad, find-above, find-here, find-on}
 use Rattle.seek.proofs.find.Statement.{statement}
 use Rattle.seek.proofs.find.Tie as tie
 
+-- so many entries of the group are left
 abbrev Inv-loop : tie.InvT-loop
-Inv-loop c limits name at₀ left₀ at left = findAt limits c name left at ≡ findIn limits c name
+Inv-loop c limits name group at₀ left₀ at left =
+    (left ≤ sizeIn limits c (groupIn limits true c (compared name)))
+    × (findFrom limits c (compared name) (spentIn limits true c (compared name) left) left at
+    ≡ record { hit = findIn limits c (compared name); count = costIn limits true c (compared name) })
 
 abbrev μ-loop : tie.MeasureT-loop
-μ-loop c limits name at₀ left₀ at left = left
+μ-loop c limits name group at₀ left₀ at left = left
+
+-- what the code says was compared, and that it fits
+spent-told : (c : tie.After-group-for Inv-loop μ-loop) (left : ℕ) → let a = c .before .before .before .args in
+    c .group-for .result .count + (c .group-for .result .size - left) ≡ spentIn (a .limits) true (now (a .c)) (compared (now (a .name))) left
+spent-told c left =
+    let a = c .before .before .before .args in
+    spent-is (a .limits) true (now (a .c)) (compared (now (a .name))) _ _ (c .group-for .ensures .1) (c .group-for .ensures .2) left
+
+room : (l : tie.At-loop Inv-loop μ-loop) (left : ℕ) → left ≤ l .loop .left
+    → (left ≤ l .before .group-for .result .size) × (l .before .group-for .result .size < 65536) × (l .before .group-for .result .count < 65536)
+room l left h =
+    let c = l .before in
+    let a = c .before .before .before .args in
+    spent-fits (a .limits) true (now (a .c)) (compared (now (a .name))) _ _ (c .group-for .ensures .1) (c .group-for .ensures .2)
+    (le-lt (now (a .c)) (λ j. c .before .before .shared-slice-known .given j .fits) 2 4094) left (omega (arith, h, l .loop .inv .0))
+
+-- the search ends
+ended : (n m : ℕ) (h : Hit) (w : CountedHit) → n ≡ m → record { hit = h; count = m } ≡ w → record { hit = h; count = n } ≡ w
+ended n m h w p q = ap (λ (x : ℕ). record { hit = h; count = x }) p ∙ q
 
 -- what was read is an entry, or is none
 read-is : (c : tie.After-e Inv-loop μ-loop) → let l = c .before .before .before .before in let a = l .before .before .before .before .args in
@@ -43,7 +73,15 @@ group-for-requires : tie.Need-group-for-requires Inv-loop μ-loop
 group-for-requires c κs = search needs
 
 loop-holds : tie.Need-loop-holds Inv-loop μ-loop
-loop-holds c = rw (c .group-for .ensures .0, c .group-for .ensures .1)
+unfolding costIn
+loop-holds c =
+    let a = c .before .before .before .args in
+    let s = sizeIn (a .limits) (now (a .c)) (groupIn (a .limits) true (now (a .c)) (compared (now (a .name)))) in
+    let z : spentIn (a .limits) true (now (a .c)) (compared (now (a .name))) s ≡ halvingsIn (a .limits) true (now (a .c)) (compared (now (a .name))) = omega arith in (
+      omega (arith, c .group-for .ensures .1),
+      rw (c .group-for .ensures .0, c .group-for .ensures .1)
+          (ap (λ (n : ℕ). findFrom (a .limits) (now (a .c)) (compared (now (a .name))) n s (groupAt true (now (a .c)) (groupIn (a .limits) true (now (a .c)) (compared (now (a .name)))))) z),
+    )
 
 listing-at-requires : tie.Need-listing-at-requires Inv-loop μ-loop
 listing-at-requires c κs = search needs
@@ -54,11 +92,19 @@ enum-known-e c = search needs
 enum-told : tie.Need-enum-told Inv-loop μ-loop
 enum-told c = search needs
 
+spent-requires : tie.Need-spent-requires Inv-loop μ-loop
+spent-requires c κs = room (c .before .before .before .before) _ (omega arith)
+
 returns : tie.Need-returns Inv-loop μ-loop
 returns c =
-    let l = c .before .before .before .before in
+    let e = c .before in
+    let l = e .before .before .before .before in
     let a = l .before .before .before .before .args in
-    sym (find-bad (a .limits) (now (a .c)) (now (a .name)) (l .loop .left) (l .loop .at) (c .before .before .before .loop-test .taken) (read-bad c)) ∙ l .loop .inv
+    ended _ _ Nothing _ (c .spent .ensures ∙ spent-told (l .before) (l .loop .left))
+    (sym (find-bad (a .limits) (now (a .c)) (compared (now (a .name))) (spentIn (a .limits) true (now (a .c)) (compared (now (a .name))) (l .loop .left)) (l .loop .left) (l .loop .at) (e .before .before .before .loop-test .taken) (read-bad e)) ∙ l .loop .inv .1)
+
+sub-left : tie.Need-sub-left Inv-loop μ-loop
+sub-left c = omega arith
 
 add-compare : tie.Need-add-compare Inv-loop μ-loop
 add-compare c = omega (arith, name-inside c .name)
@@ -78,44 +124,65 @@ compare-requires c κs = search needs
 enum-told-2 : tie.Need-enum-told-2 Inv-loop μ-loop
 enum-told-2 c = search needs
 
+spent-requires-2 : tie.Need-spent-requires-2 Inv-loop μ-loop
+spent-requires-2 c κs = room (c .before .before .before .before .before .before .before .before .before) _ (omega arith)
+
 returns-2 : tie.Need-returns-2 Inv-loop μ-loop
 returns-2 c =
-    let m = c .before .before .before .before .before in
+    let o = c .before .before .before in
+    let m = o .before .before .before in
     let l = m .before .before .before .before in
     let a = l .before .before .before .before .args in
-    sym (find-above (a .limits) (now (a .c)) (now (a .name)) (l .loop .left) (l .loop .at) (m .e .given .0 .0) (m .before .before .before .loop-test .taken) (read-is m) (sym (compared-is (c .before .before)) ∙ c .enum-told2 .given .1)) ∙ l .loop .inv
+    let t = m .before .before .before .loop-test .taken in
+    ended _ _ (Nothing) _ (c .spent2 .ensures ∙ spent-told (l .before) (l .loop .left - 1))
+    (sym (find-above (a .limits) (now (a .c)) (compared (now (a .name))) (spentIn (a .limits) true (now (a .c)) (compared (now (a .name))) (l .loop .left)) (l .loop .left) (l .loop .at) (m .e .given .0 .0) t (read-is m) _
+    (spent-next (a .limits) true (now (a .c)) (compared (now (a .name))) (l .loop .left) t (l .loop .inv .0)) (sym (compared-is o) ∙ c .before .enum-told2 .given .1)) ∙ l .loop .inv .1)
 
 enum-told-3 : tie.Need-enum-told-3 Inv-loop μ-loop
 enum-told-3 c = search needs
 
+spent-requires-3 : tie.Need-spent-requires-3 Inv-loop μ-loop
+spent-requires-3 c κs = room (c .before .before .before .before .before .before .before .before .before) _ (omega arith)
+
 returns-3 : tie.Need-returns-3 Inv-loop μ-loop
 returns-3 c =
-    let m = c .before .before .before .before .before in
+    let o = c .before .before .before in
+    let m = o .before .before .before in
     let l = m .before .before .before .before in
     let a = l .before .before .before .before .args in
-    sym (find-here (a .limits) (now (a .c)) (now (a .name)) (l .loop .left) (l .loop .at) (m .e .given .0 .0) (m .before .before .before .loop-test .taken) (read-is m) (sym (compared-is (c .before .before)) ∙ c .enum-told3 .given .1)) ∙ l .loop .inv
+    let t = m .before .before .before .loop-test .taken in
+    ended _ _ (At (m .e .given .0 .0)) _ (c .spent3 .ensures ∙ spent-told (l .before) (l .loop .left - 1))
+    (sym (find-here (a .limits) (now (a .c)) (compared (now (a .name))) (spentIn (a .limits) true (now (a .c)) (compared (now (a .name))) (l .loop .left)) (l .loop .left) (l .loop .at) (m .e .given .0 .0) t (read-is m) _
+    (spent-next (a .limits) true (now (a .c)) (compared (now (a .name))) (l .loop .left) t (l .loop .inv .0)) (sym (compared-is o) ∙ c .before .enum-told3 .given .1)) ∙ l .loop .inv .1)
 
 enum-told-4 : tie.Need-enum-told-4 Inv-loop μ-loop
 enum-told-4 c = search needs
-
-sub-left : tie.Need-sub-left Inv-loop μ-loop
-sub-left c = omega arith
 
 loop-less : tie.Need-loop-less Inv-loop μ-loop
 loop-less c = omega arith
 
 loop-again : tie.Need-loop-again Inv-loop μ-loop
 loop-again c =
-    let m = c .before .before .before .before .before in
+    let o = c .before .before in
+    let m = o .before .before .before in
     let l = m .before .before .before .before in
     let a = l .before .before .before .before .args in
-    sym (find-on (a .limits) (now (a .c)) (now (a .name)) (l .loop .left) (l .loop .at) (m .e .given .0 .0) (m .before .before .before .loop-test .taken) (read-is m) (sym (compared-is (c .before .before)) ∙ c .enum-told4 .given .1)) ∙ l .loop .inv
+    let t = m .before .before .before .loop-test .taken in (
+      omega (arith, l .loop .inv .0),
+      sym (find-on (a .limits) (now (a .c)) (compared (now (a .name))) (spentIn (a .limits) true (now (a .c)) (compared (now (a .name))) (l .loop .left)) (l .loop .left) (l .loop .at) (m .e .given .0 .0) t (read-is m) _
+          (spent-next (a .limits) true (now (a .c)) (compared (now (a .name))) (l .loop .left) t (l .loop .inv .0)) (sym (compared-is o) ∙ c .enum-told4 .given .1)) ∙ l .loop .inv .1,
+    )
+
+spent-requires-4 : tie.Need-spent-requires-4 Inv-loop μ-loop
+spent-requires-4 c κs = room (c .before) _ (omega arith)
 
 returns-4 : tie.Need-returns-4 Inv-loop μ-loop
 returns-4 c =
-    let l = c .before in
+    let w = c .before in
+    let l = w .before in
     let a = l .before .before .before .before .args in
-    sym (find-end (a .limits) (now (a .c)) (now (a .name)) (l .loop .left) (l .loop .at) (c .loop-test .left)) ∙ l .loop .inv
+    ended _ _ Nothing _ (c .spent4 .ensures ∙ spent-told (l .before) (l .loop .left))
+    (sym (find-end (a .limits) (now (a .c)) (compared (now (a .name))) (spentIn (a .limits) true (now (a .c)) (compared (now (a .name))) (l .loop .left)) (l .loop .left) (l .loop .at) (w .loop-test .left)) ∙ l .loop .inv .1)
 
 pub find-spec : {M : Type 1} → statement M
 find-spec =
@@ -128,18 +195,22 @@ find-spec =
     listing-at-requires
     enum-known-e
     enum-told
+    spent-requires
     returns
+    sub-left
     add-compare
     sub-compare
     part-compare-start
     part-compare-end
     compare-requires
     enum-told-2
+    spent-requires-2
     returns-2
     enum-told-3
+    spent-requires-3
     returns-3
     enum-told-4
-    sub-left
     loop-less
     loop-again
+    spent-requires-4
     returns-4)

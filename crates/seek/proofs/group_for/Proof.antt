@@ -1,14 +1,16 @@
 use borrow.Author.Needs.{needs}
 use mathlib.Core.Path.{_≡_, refl, ap, _∙_}
-use Prim.Native.Nat.{ℕ, _-_, _*_, _/_, _≤_, _<_}
+use Prim.Native.Nat.{ℕ, _-_, _*_, _/_, _≤_, _<_, min}
 use native.Mathlib.Nat.{le-div-iff-mul-le, div-le-self}
 use native.Mathlib.Omega.{arith}
 use lib.ListN.{length}
 use denote.Ref.{now}
+use Rattle.names.specs.Names.{compared}
 use Rattle.chunk.specs.Chunk.{countOf, spacingOf}
 use Rattle.chunk.proofs.Quick.{capped}
-use Rattle.seek.specs.Seek.{groupAt, groupFrom, groupIn}
-use Rattle.seek.proofs.Groups.{group-none, capped-group}
+use Rattle.seek.specs.Seek.{groupAt, groupAbove, halved, groupIn, sizeIn}
+use Rattle.seek.specs.Count.{halvings, halvingsIn}
+use Rattle.seek.proofs.Groups.{group-none, capped-group, capped-size}
 use Rattle.seek.proofs.Steps.{counted}
 use Rattle.seek.proofs.group_for.Statement.{statement}
 use Rattle.seek.proofs.group_for.Tie as tie
@@ -27,8 +29,8 @@ unfolding groupAt
 returns c =
     let t = c .before in
     let a = t .before .before .before .before .args in
-    let z = group-none (a .limits) (a .listing) (now (a .c)) (now (a .name)) (omega (arith, t .before .le16 .ensures)) in
-    rw z (c .head .ensures, omega (arith, t .before .le16 .ensures))
+    let z = group-none (a .limits) (a .listing) (now (a .c)) (compared (now (a .name))) (omega (arith, t .before .le16 .ensures)) in
+    rw (z .0, z .1) (c .head .ensures, omega (arith, t .before .le16 .ensures), refl)
 
 -- the chunk has its count
 has-count : (c : tie.Else1) → 4094 < length (now (c .before .before .before .before .args .c))
@@ -51,32 +53,53 @@ group-at-requires : tie.Need-group-at-requires
 group-at-requires c κs = has-count (c .before .before)
 
 -- the group is one of the chunk's
-inside : (c : tie.After-group-of) → c .group-of .result * c .before .spacing .result ≤ c .before .before .before .le16 .result - 1
-inside c = le-div-iff-mul-le {k = c .before .spacing .result} (omega (arith, c .before .spacing .ensures)) .0 (c .group-of .ensures .1)
+inside : (c : tie.After-group-of) → c .group-of .result .group * c .before .spacing .result ≤ c .before .before .before .le16 .result - 1
+inside c = le-div-iff-mul-le {k = c .before .spacing .result} (omega (arith, c .before .spacing .ensures)) .0 (c .group-of .ensures .2)
 
-mul-t12 : tie.Need-mul-t12
-mul-t12 c = omega (arith, inside (c .before))
-
-sub-t13 : tie.Need-sub-t13
-sub-t13 c = omega (arith, inside (c .before))
-
-returns-2 : tie.Need-returns-2
+-- it begins at its place, has so many entries, and took so many names
+chosen : (c : tie.After-group-at)
+    → let o = c .before in
+    let n = o .before .spacing .result in
+    let t = o .before .before .before in
+    let a = t .before .before .before .args in
+    let g = groupIn (a .limits) (a .listing) (now (a .c)) (compared (now (a .name))) in
+    (c .group-at .result ≡ groupAt (a .listing) (now (a .c)) g)
+    × (min n (t .le16 .result - o .group-of .result .group * n) ≡ sizeIn (a .limits) (now (a .c)) g)
+    × (o .group-of .result .count ≡ halvingsIn (a .limits) (a .listing) (now (a .c)) (compared (now (a .name))))
 unfolding groupIn
-returns-2 c =
+chosen c =
     let o = c .before in
     let p = o .before .spacing in
     let t = o .before .before .before in
     let a = t .before .before .before .args in
     let d = a .limits .density in
-    let same = capped d in
+    let above = groupAbove (a .listing) (now (a .c)) (compared (now (a .name))) in
+    let h = o .group-of .result .group in
     let total : t .le16 .result ≡ countOf (now (a .c)) = t .le16 .ensures in
     let q : (t .le16 .result - 1) / p .result ≡ (countOf (now (a .c)) - 1) / spacingOf d =
-    rw (p .ensures, total) (same .words (countOf (now (a .c)) - 1) (omega arith)) in
-    let g : o .group-of .result ≡ groupIn (a .limits) (a .listing) (now (a .c)) (now (a .name)) =
-    o .group-of .ensures .0 ∙ ap (λ (i : ℕ). groupFrom (a .listing) (now (a .c)) (now (a .name)) i 0 i) q in
-    let m : o .group-of .result * p .result ≡ o .group-of .result * spacingOf d =
-    ap (λ (i : ℕ). o .group-of .result * i) (p .ensures) ∙ capped-group d (o .group-of .result) (t .le16 .result - 1) (omega arith) (rw (← p .ensures) (o .group-of .ensures .1)) in
-    (c .group-at .ensures ∙ ap (groupAt (a .listing) (now (a .c))) g, (rw (m, total, g) refl))
+    rw (p .ensures, total) (capped d .words (countOf (now (a .c)) - 1) (omega arith)) in
+    let g : h ≡ groupIn (a .limits) (a .listing) (now (a .c)) (compared (now (a .name))) =
+    o .group-of .ensures .0 ∙ ap (λ (i : ℕ). halved above i 0 i) q in
+    let m : h * p .result ≡ h * spacingOf d =
+    ap (λ (i : ℕ). h * i) (p .ensures) ∙ capped-group d h (t .le16 .result - 1) (omega arith) (rw (← p .ensures) (o .group-of .ensures .2)) in
+    let s : min (p .result) (t .le16 .result - h * p .result) ≡ min (spacingOf d) (t .le16 .result - h * p .result) =
+    ap (λ (i : ℕ). min i (t .le16 .result - h * p .result)) (p .ensures) ∙ capped-size d (t .le16 .result - h * p .result) (omega arith) in (
+      c .group-at .ensures ∙ ap (groupAt (a .listing) (now (a .c))) g,
+      s ∙ rw (m, total, g) refl,
+      o .group-of .ensures .1 ∙ ap (λ (i : ℕ). halvings above i 0 i) q,
+    )
+
+mul-smaller : tie.Need-mul-smaller
+mul-smaller c = omega (arith, inside (c .before .before))
+
+sub-smaller : tie.Need-sub-smaller
+sub-smaller c = omega (arith, inside (c .before .before))
+
+smaller-requires : tie.Need-smaller-requires
+smaller-requires c κs = search needs
+
+returns-2 : tie.Need-returns-2
+returns-2 c = let k = chosen (c .before .before) in (k .0, c .smaller .ensures ∙ k .1, k .2)
 
 pub group-for-spec : {M : Type 1} → statement M
 group-for-spec =
@@ -91,6 +114,7 @@ group-for-spec =
     div-group-of
     group-of-requires
     group-at-requires
-    mul-t12
-    sub-t13
+    mul-smaller
+    sub-smaller
+    smaller-requires
     returns-2)

@@ -16,7 +16,7 @@ fn lookups_disagree(
     let numbers = record_numbers(record);
     let mut groups = (0u32..).zip(names).zip(answers.chunks_exact(ANSWER));
     groups.find_map(|((at, name), group)| {
-        let (mut trail, mut entry) = ([0; 5], [0; 6]);
+        let (mut trail, mut entry) = ([0; 5], [0; 7]);
         let got = library::lookup(file, &numbers, name, &mut trail, &mut entry);
         let told = match got {
             DONE => [DONE, entry[3], entry[4], entry[5]],

@@ -28,8 +28,9 @@ fn found_and_absent() {
         let run = fed(command(&args), &sample("sample.chm"));
         assert!(run.good().ends_with("length 5\n"));
     }
-    let run = hods(&["find", "sample.chm", "--", "--chain", "--trail"]);
-    let want = "--chain: absent\n--trail: absent\n";
+    let names = ["--chain", "--trail", "--count"];
+    let run = hods(&[&["find", "sample.chm", "--"], &names[..]].concat());
+    let want = "--chain: absent\n--trail: absent\n--count: absent\n";
     assert_eq!((run.status, run.out()), (1, want));
 }
 
@@ -55,9 +56,34 @@ fn with_the_trail() {
     assert!(run.good().ends_with("length 5; chunk 0\n"));
 }
 
-/// All ways say the same of every name of the book, and of one behind each.
+/// Counted by hand: chunk 6 has two entries, 5 and 1 three each, a group each; chunk 7 has ten groups, / in the first, and chunk 3 two.
 #[test]
-fn all_ways_agree() {
+fn with_the_count() {
+    let names = ["several.chm", "/Zones.htm", "/ZONES.HTM", "/"];
+    let run = hods(&[&["find", "--count"], &names[..]].concat());
+    let want = "/Zones.htm: found, section 0, offset 26, length 10; 8 comparisons\n\
+        /ZONES.HTM: found as /Zones.htm, section 0, offset 26, length 10; 8 comparisons\n\
+        /: found, section 0, offset 0, length 0; 6 comparisons\n";
+    assert_eq!(run.good(), want);
+
+    let want = "/nope: absent; chunks 6 1 3; 8 comparisons\n\
+        /#TOPICS: found, section 0, offset 8, length 8; chunks 6 5 7; 10 comparisons\n\
+        !: absent; chunk 6; 1 comparison\n";
+    for options in [["--trail", "--count"], ["--count", "--trail"]] {
+        let args = [&["find"], &options[..], &["several.chm", "/nope"]].concat();
+        let run = hods(&[&args[..], &["/#TOPICS", "!"]].concat());
+        assert_eq!((run.status, run.out(), &run.err[..]), (1, want, ""));
+    }
+
+    let run = fed(
+        command(&["find", "-", "--count", "/a.htm"]),
+        &sample("sample.chm"),
+    );
+    assert!(run.good().ends_with("length 5; 2 comparisons\n"));
+}
+
+/// What is said of every name of a book, and of one behind each.
+fn of_all_names(options: &[&str]) -> Ran {
     let listed = hods(&["list", "several.chm"]);
     let names = listed.good().lines();
     let names = names.filter_map(|line| line.split_whitespace().nth(3));
@@ -65,19 +91,27 @@ fn all_ways_agree() {
         .flat_map(|name| [name.to_string(), format!("{name}!")])
         .collect();
     assert_eq!(asked.len(), 466);
-    let found = |options: &[&str]| {
-        let mut command = command(&[&["find"], options, &["several.chm"]].concat());
-        Ran::of(command.args(&asked).output().unwrap())
-    };
-    let [index, trail, chain] = [&[][..], &["--trail"], &["--chain"]].map(found);
-    assert_eq!([index.status, trail.status, chain.status], [1; 3]);
+    let mut command = command(&[&["find"], options, &["several.chm"]].concat());
+    let run = Ran::of(command.args(&asked).output().unwrap());
+    assert_eq!((run.status, run.out().lines().count()), (1, 466));
+    run
+}
+
+/// All ways say the same. What is told of the descent stands behind the answer, the chunks first.
+#[test]
+fn all_ways_agree() {
+    let [index, chain] = [&[][..], &["--chain"]].map(of_all_names);
     assert_eq!(index.out(), chain.out());
     assert_eq!(index.out().matches(": absent\n").count(), 233);
-    for (told, line) in trail.out().lines().zip(index.out().lines()) {
-        let chunks = told.strip_prefix(line).unwrap();
-        assert!(chunks.starts_with("; chunks 6 "), "{told}");
+    let [trail, count] = [&["--trail"][..], &["--count"]].map(of_all_names);
+    let both = of_all_names(&["--trail", "--count"]);
+    let told = trail.out().lines().zip(count.out().lines());
+    for ((line, told), both) in index.out().lines().zip(told).zip(both.out().lines()) {
+        let [chunks, count] = [told.0, told.1].map(|told| told.strip_prefix(line).unwrap());
+        assert!(chunks.starts_with("; chunks 6 "), "{chunks}");
+        assert!(count.ends_with(" comparisons"), "{count}");
+        assert_eq!(both, [line, chunks, count].concat());
     }
-    assert_eq!(trail.out().lines().count(), 466);
 }
 
 /// A wrong name in the root, a wrong child, a tree that is too low: the chain has all names all the same.
@@ -96,7 +130,7 @@ fn a_broken_index() {
         assert_ne!(book[place], byte);
         book[place] = byte;
         folder.put("book", &book);
-        for option in ["--", "--trail"] {
+        for option in ["--", "--trail", "--count"] {
             let run = folder.hods(&["find", option, "book", "/"]);
             run.bad(1, &["hods: book: refusal 14"]);
         }
@@ -134,7 +168,7 @@ fn names_that_cannot_be() {
         "hods: several.chm: refusal 15 (FORMAT R15): the asked name has 0 bytes, not 1 to 1024\n",
         "has 1025 bytes",
     ]);
-    for option in ["--chain", "--trail"] {
+    for option in ["--chain", "--trail", "--count"] {
         let run = hods(&["find", option, "several.chm", "", "/", &long]);
         assert_eq!((run.status, run.out().lines().count()), (1, 1));
         run.says(&["refusal 15 (FORMAT R15)", "has 0 bytes", "has 1025 bytes"]);

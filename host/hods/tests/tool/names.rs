@@ -89,6 +89,14 @@ fn with_other_options() {
         "/: found, section 0, offset 0, length 0; chunks 6 5 7\n{found}; chunks 6 1 3\n!: absent; chunk 6\n"
     );
     assert_eq!((run.status, run.out(), &run.err[..]), (1, &want[..], ""));
+    let run = asked(&["--count", "/"], lines);
+    let want = format!(
+        "/: found, section 0, offset 0, length 0; 6 comparisons\n{found}; 8 comparisons\n!: absent; 1 comparison\n"
+    );
+    assert_eq!((run.status, run.out(), &run.err[..]), (1, &want[..], ""));
+    let run = asked(&["--count", "--trail"], lines);
+    let want = format!("{found}; chunks 6 1 3; 8 comparisons\n!: absent; chunk 6; 1 comparison\n");
+    assert_eq!((run.status, run.out(), &run.err[..]), (1, &want[..], ""));
     let run = asked(&["--chain", "/"], lines);
     let want = format!("{ROOT}{found}\n!: absent\n");
     assert_eq!((run.status, run.out(), &run.err[..]), (1, &want[..], ""));
@@ -200,6 +208,15 @@ fn what_cannot_be_read() {
         "gone",
     ])
     .bad(2, &["--chain and --trail exclude each other"]);
+    hods(&[
+        "find",
+        "several.chm",
+        "--count",
+        "--chain",
+        "--names",
+        "gone",
+    ])
+    .bad(2, &["--chain and --count exclude each other"]);
     // What was answered before is printed.
     let run = hods(&["find", "several.chm", "/", "--names", "."]);
     assert_eq!((run.status, run.out()), (2, ROOT));

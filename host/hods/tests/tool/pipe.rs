@@ -43,7 +43,7 @@ fn a_closed_pipe_is_no_trouble() {
 /// Answers that the status gives are given all the same.
 #[test]
 fn a_closed_pipe_hides_no_answer() {
-    for option in ["--", "--chain", "--trail"] {
+    for option in ["--", "--chain", "--trail", "--count"] {
         let run = unread(command(&["find", option, "sample.chm", "/a.htm", "/b"]));
         assert_eq!((run.status, &run.err[..]), (1, ""));
     }

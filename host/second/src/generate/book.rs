@@ -95,6 +95,22 @@ pub fn book_of_items(random: &mut Random, items: &[Item], content_length: u64) -
     numbered(random, levels, &common)
 }
 
+/// A book with the entries of these chunks, listing chunks first and the root last. The field of an
+/// index entry is the number of its child among the chunks of the level below. All else is random.
+pub(super) fn book_of_levels(
+    random: &mut Random,
+    levels: Vec<Level>,
+    density: u32,
+    content_length: u64,
+) -> Book {
+    let common = Common {
+        density,
+        content_length,
+        padding: Padding::NONE,
+    };
+    numbered(random, levels, &common)
+}
+
 /// Listing chunks for these entries. Behind the first of them each takes all that fits: few dozens
 /// are needed, for which five levels do.
 fn spread(random: &mut Random, items: &[Item], common: &Common) -> Level {
@@ -125,7 +141,7 @@ fn spread(random: &mut Random, items: &[Item], common: &Common) -> Level {
 }
 
 /// The entries of each chunk of a level, from left to right.
-type Level = Vec<Vec<Item>>;
+pub(super) type Level = Vec<Vec<Item>>;
 
 /// A tree whose chunks take now few, now many entries.
 fn random_levels(random: &mut Random, common: &Common, depth: u32) -> Vec<Level> {

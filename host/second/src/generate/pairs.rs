@@ -153,7 +153,7 @@ const BORDERS: [[u8; 2]; 21] = [
 ];
 
 /// How many places the order of bytes has: both cases of a letter stand at one.
-const PLACES: usize = 230;
+pub(super) const PLACES: usize = 230;
 
 /// The places of the letters.
 const FIRST_LETTER: usize = 0x47;
@@ -161,7 +161,7 @@ const LAST_LETTER: usize = 0x60;
 
 /// The bytes at a place of the order: 00 to 40 hex, 5B to 60, A and a to Z and z, 7B to FF (FORMAT
 /// S1).
-fn at_place(place: usize) -> [u8; 2] {
+pub(super) fn at_place(place: usize) -> [u8; 2] {
     let place = place as u8;
     match place {
         0x00..=0x40 => [place, place],

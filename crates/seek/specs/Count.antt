@@ -1,0 +1,71 @@
+-- How many names a search in one chunk compares with the asked one. First over the list of a chunk's entries, which is what is meant; then over the
+-- chunk's bytes, which is how it goes. `cost-good` of proofs/Counts.antt says that on a chunk that passes its check the two are the same.
+-- Assumes nothing.
+use mathlib.Core.List.{List, [], _∷_}
+use mathlib.Core.Bool.{Bool, true, false, cond}
+use Prim.Native.Nat.{ℕ, zero, suc, _+_, _-_, _*_, _^_, _≤_}
+use lib.Dec.{ltb}
+use lib.ListN.{length, take, drop}
+use Rattle.fields.specs.Part.{part}
+use Rattle.names.specs.Order.{isLess}
+use Rattle.encint.specs.declared.Number.{Number}
+use Rattle.encint.specs.declared.Number.the-variants.{Value, Bad}
+use Rattle.entries.specs.Entry.{withNumber, nameAt, itemAt}
+use Rattle.entries.specs.declared.Limits.{Limits}
+use Rattle.chunk.specs.Chunk.{Entry, withItem, quickCount}
+use Rattle.seek.specs.Seek.{Stand, byOrder, nth, nameIn, middle, halved, groupAt, groupAbove, lastGroup, groupIn, sizeIn}
+
+-- groups lo to hi are left: how many first names are compared until one group is (Q9), i at most. The recursion is that of `halved`
+unfoldable pub halvings : (ℕ → Bool) → ℕ → ℕ → ℕ → ℕ
+halvings above zero lo hi = 0
+halvings above (suc i) lo hi =
+    cond (ltb lo hi) (suc (cond (above (middle lo hi)) (halvings above i lo (middle lo hi - 1)) (halvings above i (middle lo hi) hi))) 0
+
+-- ---- among entries, n in each group but the last (Q8)
+
+-- the first name of group g is above the asked one
+abbrev pub aboveIn : ℕ → Stand → List Entry → ℕ → Bool
+aboveIn n stand es g = isLess (stand (nameIn (nth (g * n) es)))
+
+-- the group that is left of all
+abbrev pub groupOf : ℕ → Stand → List Entry → ℕ
+groupOf n stand es = halved (aboveIn n stand es) (quickCount n (length es)) 0 (quickCount n (length es))
+
+-- from the front up to the first name that is not below the asked one (Q10)
+unfoldable pub passed : Stand → List Entry → ℕ
+passed stand [] = 0
+passed stand (e ∷ es) = suc (byOrder (stand (e .name)) 0 0 (passed stand es))
+
+-- the groups are halved, and the one that is left is gone through (Q11)
+unfoldable pub comparisons : ℕ → Stand → List Entry → ℕ
+comparisons n stand es =
+    halvings (aboveIn n stand es) (quickCount n (length es)) 0 (quickCount n (length es))
+    + passed stand (take n (drop (groupOf n stand es * n) es))
+
+-- h is the least whole number for which 2 ^ h is g or more (Q12)
+pub record Least (g h : ℕ) : Type 0 where
+  pub enough : g ≤ 2 ^ h
+  pub least : (k : ℕ) → g ≤ 2 ^ k → h ≤ k
+
+-- ---- over the bytes of a chunk; in those of a chunk that passes its check each turn has its name
+
+-- the name that is compared at a place, if there is one: a listing entry is read whole before, of an index entry only the name
+unfoldable pub comparedAt : Limits → Bool → List ℕ → ℕ → Number
+comparedAt limits true s at = withItem (itemAt limits true s at) Bad (λ e. Value (e .len) (e .start))
+comparedAt limits false s at = nameAt s at
+
+-- among n entries from a place on
+unfoldable pub walked : Limits → Bool → List ℕ → Stand → ℕ → ℕ → ℕ
+walked limits k s stand zero at = 0
+walked limits k s stand (suc n) at =
+    withNumber (comparedAt limits k s at) 0 (λ len start.
+    suc (byOrder (stand (part s start len)) 0 0 (withItem (itemAt limits k s at) 0 (λ e. walked limits k s stand n (e .next)))))
+
+-- to find the group; a turn counts also where its first name is none
+abbrev pub halvingsIn : Limits → Bool → List ℕ → Stand → ℕ
+halvingsIn limits k s stand = halvings (groupAbove k s stand) (lastGroup limits s) 0 (lastGroup limits s)
+
+-- in all
+unfoldable pub costIn : Limits → Bool → List ℕ → Stand → ℕ
+costIn limits k s stand =
+    halvingsIn limits k s stand + walked limits k s stand (sizeIn limits s (groupIn limits k s stand)) (groupAt k s (groupIn limits k s stand))
