@@ -1,4 +1,4 @@
--- What the search for a name in one chunk comes to, in a file read by any record, with how many names it compares, and what a report of a name that was
+-- What the search for a name in one chunk comes to, in a file read by any record, with how many comparisons it makes, and what a report of a name that was
 -- found is worth.
 -- Assumes nothing.
 use mathlib.Core.Path.{_≡_}
@@ -24,7 +24,7 @@ use Rattle.book.specs.declared.Search.the-variants.{Found, Next, Barred}
 
 -- ---- in the bytes of chunk c, checked or not (K22)
 
--- n is how many names were compared
+-- n is how many comparisons were made
 abbrev pub findingOf : List ℕ → Record → ℕ → ℕ → Hit → Finding
 findingOf s book c n (At e) = Finding.Found n (reportAt s book c e)
 findingOf s book c n Hit.Nothing = Finding.Nothing n
@@ -44,11 +44,11 @@ childIn s book name c =
 
 -- ---- in a chunk that passes its check
 
--- how many names are compared in chunk c (Q11)
+-- how many comparisons are made in chunk c (Q11)
 abbrev pub costAt : List ℕ → Record → List ℕ → ℕ → ℕ
 costAt s book name c = comparisons (spacingOf (book .density)) (compared name) (entriesIn (directoryOf s book c))
 
--- the entry of listing chunk c that holds the name (Q5, K6), or the number of the chunk's next; n is how many names were compared
+-- the entry of listing chunk c that holds the name (Q5, K6), or the number of the chunk's next; n is how many comparisons were made
 abbrev pub searchOf : Record → ℕ → ℕ → ℕ → Sought → Search
 searchOf book c next n (Sought.found e) = Found n (reportOf book c e)
 searchOf book c next n Sought.absent = Next n next

@@ -34,14 +34,14 @@ pub struct Own {
     pub length: u64,
 }
 
-// What the search in the bytes of a chunk comes to; the number in front is how many names were compared with the asked one.
+// What the search in the bytes of a chunk comes to; the number in front is how many comparisons of the asked name it made.
 pub enum Finding {
     Found(u32, Report),
     Nothing(u32),
 }
 
-// What the search for a name in one listing chunk comes to: its entry, or the number of the chunk's next; the number in front is how many names were
-// compared. `Barred` where there is no listing chunk.
+// What the search for a name in one listing chunk comes to: its entry, or the number of the chunk's next; the number in front is how many comparisons
+// it made. `Barred` where there is no listing chunk.
 pub enum Search {
     Found(u32, Report),
     Next(u32, u32),

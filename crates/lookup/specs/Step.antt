@@ -17,7 +17,7 @@ use Rattle.lookup.specs.declared.Answer.{Answer}
 use Rattle.lookup.specs.declared.Way.{Way}
 use Rattle.lookup.specs.declared.Way.the-variants.{Down, Ends, Barred}
 
--- where index chunk c leads: to the child of the entry to go down from (Q2), or nowhere (Q3), with how many names are compared there;
+-- where index chunk c leads: to the child of the entry to go down from (Q2), or nowhere (Q3), with how many comparisons are made there;
 -- `Barred` where it is no index chunk below the count (K13)
 unfoldable pub wayAt : List ℕ → Record → List ℕ → ℕ → Way
 wayAt s book name c =
@@ -36,7 +36,7 @@ trailAt s book name level c = trailFrom (directoryOf s book) (shapeOf book) name
 abbrev pub effortAfter : List ℕ → Record → List ℕ → ℕ → ℕ → List ℕ → Effort
 effortAfter s book name i n cs = record { chunks = i + length cs; comparisons = n + costs s book name cs }
 
--- chunk c being chunk i of a whole descent, which compared n names before: the answer, and the trail, which was `was`
+-- chunk c being chunk i of a whole descent, which made n comparisons before: the answer, and the trail, which was `was`
 pub record Descended (s : List ℕ) (book : Record) (name : List ℕ) (level c i n : ℕ) (was : List ℕ) (r : Answer) (is : List ℕ) : Type 0 where
   pub answer : r ≡ answerOf book (effortAfter s book name i n (trailAt s book name level c)) (outcomeAt s book name level c)
   pub places : is ≡ unless r was (sets was i (trailAt s book name level c))

@@ -18,13 +18,13 @@ use chunk::Chunk;
 use header::Record;
 use seek::Child;
 
-// What a descent takes: how many chunks it goes through, and how many names of theirs it compares with the asked one.
+// What a descent takes: how many chunks it goes through, and how many comparisons of the asked name it makes in them.
 pub struct Effort {
     pub chunks: u32,
     pub comparisons: u32,
 }
 
-// What a lookup answers, with what its descent took in front, where the compiler hands found and absent on alike.
+// What a lookup answers, behind what its descent took.
 pub enum Answer {
     Found(Effort, Report),
     Absent(Effort),
@@ -38,7 +38,7 @@ pub enum Reply {
     Refused(Refusal),
 }
 
-// Where an index chunk leads a descent: down to a chunk, or nowhere; the number at the end is how many names were compared. `Barred` where it is no index chunk.
+// Where an index chunk leads a descent: down to a chunk, or nowhere; the number at the end is how many comparisons it took. `Barred` where it is no index chunk.
 enum Way {
     Down(u64, u32),
     Ends(u32),
@@ -52,7 +52,7 @@ fn refused(number: u8) -> Answer
     Answer::Refused(book::refuse(number))
 }
 
-// What chunk c, which has to be a listing chunk, answers to a name; n is the count of the descent's chunks, `spent` how many names were compared before.
+// What chunk c, which has to be a listing chunk, answers to a name; n is the count of the descent's chunks, `spent` how many comparisons were made before.
 fn ask_listing(file: &[u8], book: Record, name: &[u8], c: u64, n: u32, spent: u32) -> Answer
     requires { ⌜ spent < 0x100000 ⌝ }
     ensures { λ r. ⌜ r ≡ answerOf book (record { chunks = n; comparisons = spent + costAt (now (file .entry)) book (now (name .entry)) c }) (outcomeAt (now (file .entry)) book (now (name .entry)) 1 c) ⌝ }
@@ -104,7 +104,7 @@ fn is_refusal(answer: Answer) -> bool
     }
 }
 
-// Chunk c goes to place i of the trail, unless the answer is a refusal. The answer itself is not handed in: to hand it back would be to copy it once a level.
+// Chunk c goes to place i of the trail, unless the answer is a refusal.
 fn mark(refused: bool, trail: &mut [u32], i: usize, c: u64)
     requires { ⌜ (i < length (now trail)) × (refused ≡ false → c < 2 ^ 32) ⌝ }
     ensures { λ _. ⌜ now (trail .exit) ≡ cond refused (now (trail .entry)) (set (now (trail .entry)) i c) ⌝ }
@@ -115,7 +115,7 @@ fn mark(refused: bool, trail: &mut [u32], i: usize, c: u64)
     trail[i] = c as u32;
 }
 
-// The descent from chunk c of a level on, which is chunk i of the whole descent; `spent` is how many names it compared before. The trail is written on the
+// The descent from chunk c of a level on, which is chunk i of the whole descent; `spent` is how many comparisons it made before. The trail is written on the
 // way back, once the outcome is known.
 fn descend(
     file: &[u8],

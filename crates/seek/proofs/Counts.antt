@@ -1,4 +1,4 @@
--- How many names a search compares.
+-- How many comparisons of the asked name a search makes.
 --     cost-few     at most h + n, where 2 ^ h is the number of groups or more, and n entries are in a group
 --     cost-good    on a chunk that passes its check, as many over its bytes as among its entries
 --     cost-small   on any bytes, a number that fits 32 bits five times over

@@ -28,25 +28,25 @@ pub enum Child {
     Nowhere,
 }
 
-// What a search for a name comes to, and how many names it compared with the asked one.
+// What a search for a name comes to, and how many comparisons of the asked name it made.
 pub struct CountedHit {
     pub hit: Hit,
     pub count: u32,
 }
 
-// Where an index chunk leads, and how many names were compared with the asked one.
+// Where an index chunk leads, and how many comparisons of the asked name that took.
 pub struct CountedChild {
     pub child: Child,
     pub count: u32,
 }
 
-// The group that halving leaves, and how many names were compared until then.
+// The group that halving leaves, and how many comparisons it made.
 struct Halved {
     group: usize,
     count: u32,
 }
 
-// A group of entries: where it begins, how many it has, and how many names were compared to choose it.
+// A group of entries: where it begins, how many it has, and how many comparisons it took to choose it.
 struct Group {
     at: usize,
     size: usize,
@@ -137,7 +137,7 @@ fn group_for(c: &[u8], limits: Limits, listing: bool, name: &[u8]) -> Group
     }
 }
 
-// How many names were compared when so many entries of a group are left: those that chose it, and those of the entries before.
+// How many comparisons were made when so many entries of a group are left: those that chose it, and one for each entry that is gone through.
 fn spent(group: Group, left: usize) -> u32
     requires { ⌜ (left ≤ group .size) × (group .size < 65536) × (group .count < 65536) ⌝ }
     ensures { λ r. ⌜ r ≡ group .count + (group .size - left) ⌝ }
@@ -195,7 +195,7 @@ fn child_at(c: &[u8], at: usize, count: u64, before: Child) -> Child
     }
 }
 
-// A child, beside how many names were compared when so many entries of a group are left.
+// A child, beside how many comparisons were made when so many entries of a group are left.
 fn child_of(child: Child, group: Group, left: usize) -> CountedChild
     requires { ⌜ (left ≤ group .size) × (group .size < 65536) × (group .count < 65536) ⌝ }
     ensures { λ r. ⌜ r ≡ record { child = child; count = group .count + (group .size - left) } ⌝ }
