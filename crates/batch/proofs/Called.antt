@@ -11,9 +11,9 @@ use borrow.Author.Tests.{le-leb, lt-leb}
 use Rattle.header.specs.declared.Record.{Record}
 use Rattle.book.specs.Book.{refusalOf}
 use Rattle.book.specs.declared.Refusal.{Refusal}
-use Rattle.directory.specs.Opened.{opened}
-use Rattle.directory.specs.declared.Opened.the-variants.{Book}
-use Rattle.directory.specs.declared.Opened.{Opened}
+use Rattle.opening.specs.Opened.{opened}
+use Rattle.opening.specs.declared.Opened.the-variants.{Book}
+use Rattle.opening.specs.declared.Opened.{Opened}
 use Rattle.fetch.specs.Fetch.{fetched}
 use Rattle.fetch.proofs.Agreed.{fetched-same}
 use Rattle.batch.specs.Batch.{Names, namesIn, resultOf, resultFor, answerable, batchOf, answersIn}

@@ -22,12 +22,12 @@ use Rattle.tree.specs.Descent.{Outcome, found, absent, refused}
 use Rattle.tree.proofs.Demanded.{demand-3}
 use Rattle.book.specs.Book.{directoryOf, shapeOf, refusalOf}
 use Rattle.book.specs.declared.Refusal.{Refusal}
-use Rattle.directory.specs.Opened.{opened}
-use Rattle.directory.specs.Refusals.{Told}
-use Rattle.directory.specs.declared.Opened.{Opened}
-use Rattle.directory.specs.declared.Opened.the-variants.{Book}
-use Rattle.directory.proofs.Accepted.{opened-book}
-use Rattle.directory.proofs.Refusals.{refusal-told}
+use Rattle.opening.specs.Opened.{opened}
+use Rattle.opening.specs.Refusals.{Told}
+use Rattle.opening.specs.declared.Opened.{Opened}
+use Rattle.opening.specs.declared.Opened.the-variants.{Book}
+use Rattle.opening.proofs.Accepted.{opened-book}
+use Rattle.opening.proofs.Refusals.{refusal-told}
 use Rattle.lookup.specs.Lookup.{outcomeIn, lookedUp}
 use Rattle.lookup.specs.Reply.{replyTo, repliedTo, replyOf}
 use Rattle.lookup.specs.declared.Reply.{Reply}

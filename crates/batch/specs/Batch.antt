@@ -15,9 +15,9 @@ use Rattle.entries.specs.Entry.{withNumber}
 use Rattle.header.specs.declared.Record.{Record}
 use Rattle.book.specs.Book.{refusalOf}
 use Rattle.book.specs.declared.Refusal.{Refusal}
-use Rattle.directory.specs.Opened.{opened}
-use Rattle.directory.specs.declared.Opened.{Opened}
-use Rattle.directory.specs.declared.Opened.the-variants.{Book}
+use Rattle.opening.specs.Opened.{opened}
+use Rattle.opening.specs.declared.Opened.{Opened}
+use Rattle.opening.specs.declared.Opened.the-variants.{Book}
 use Rattle.lookup.specs.Lookup.{lookedUp}
 use Rattle.lookup.specs.Reply.{replyOf}
 use Rattle.lookup.specs.declared.Reply.{Reply}

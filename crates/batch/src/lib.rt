@@ -8,7 +8,7 @@ ghost use Rattle.fields.specs.Le.{bytes};
 ghost use Rattle.batch.specs.Batch.{askedAt, namesIn, resultOf, batchOf, answersIn};
 ghost use Rattle.batch.specs.Step.{countedAs, resultsBy, batchIn, answersBy};
 use book::Refusal;
-use directory::Opened;
+use opening::Opened;
 use encint::Number;
 use header::Record;
 use lookup::Reply;
@@ -120,7 +120,7 @@ pub fn batch(file: &[u8], names: &[u8], answers: &mut [u8]) -> Batched
     ensures answer { λ r. ⌜ r ≡ batchOf (now (file .entry)) (now (names .entry)) (length (now (answers .entry))) ⌝ }
     ensures answers { λ _. ⌜ now (answers .exit) ≡ answersIn (now (file .entry)) (now (names .entry)) (now (answers .entry)) ⌝ }
 {
-    match directory::open(file) {
+    match opening::open(file) {
         Opened::Book(book) => batch_in(file, book, names, answers),
         Opened::Refused(r) => Batched::Refused(r),
     }

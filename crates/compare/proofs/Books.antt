@@ -17,9 +17,9 @@ use Rattle.tree.proofs.Linked.{good-filled, listed}
 use Rattle.tree.proofs.Reading.{entryIn, reading-good, held-entries, chain-short, entries-short}
 use Rattle.book.specs.Book.{directoryOf, shapeOf}
 use Rattle.book.proofs.Read.{entries-few}
-use Rattle.directory.specs.Opened.{opened}
-use Rattle.directory.specs.declared.Opened.the-variants.{Book}
-use Rattle.directory.proofs.Accepted.{opened-book}
+use Rattle.opening.specs.Opened.{opened}
+use Rattle.opening.specs.declared.Opened.the-variants.{Book}
+use Rattle.opening.proofs.Accepted.{opened-book}
 use Rattle.walk.specs.Exact.{readingOf}
 use Rattle.compare.specs.Compared.{Ahead, wholeReading}
 

@@ -10,8 +10,8 @@ use Rattle.header.specs.declared.Record.{Record}
 use Rattle.tree.specs.Chain.{chainEntries}
 use Rattle.tree.specs.Reading.{Reading}
 use Rattle.book.specs.Book.{directoryOf, shapeOf}
-use Rattle.directory.specs.Opened.{opened}
-use Rattle.directory.specs.declared.Opened.the-variants.{Book}
+use Rattle.opening.specs.Opened.{opened}
+use Rattle.opening.specs.declared.Opened.the-variants.{Book}
 use Rattle.walk.specs.Exact.{readingOf}
 use Rattle.compare.specs.Course.{done, Course, merged, course, pairs, ending, firsts, seconds, noTotals}
 use Rattle.compare.specs.Compare.{compareStart}

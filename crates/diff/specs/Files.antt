@@ -6,9 +6,9 @@ use mathlib.Core.List.{List}
 use lib.ListN.{length}
 use lib.Dec.{ltb}
 use Rattle.book.specs.Book.{refusalOf}
-use Rattle.directory.specs.Opened.{opened}
-use Rattle.directory.specs.declared.Opened.{Opened}
-use Rattle.directory.specs.declared.Opened.the-variants.{Refused}
+use Rattle.opening.specs.Opened.{opened}
+use Rattle.opening.specs.declared.Opened.{Opened}
+use Rattle.opening.specs.declared.Opened.the-variants.{Refused}
 
 -- one that is too long is refused by 29, else it is opened
 abbrev pub openedFile : List ℕ → Opened

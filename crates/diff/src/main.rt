@@ -8,7 +8,7 @@ ghost use Rattle.diff.specs.Steps.{nextAfter};
 use compare::Cursor;
 use compare::Shown;
 use compare::Step;
-use directory::Opened;
+use opening::Opened;
 use header::Record;
 
 // Where the comparison goes on behind a step: at a cursor, or nowhere.
@@ -49,7 +49,7 @@ fn open_file(file: &[u8]) -> Opened
     if 30000 < file.len() {
         return Opened::Refused(book::refuse(29));
     }
-    directory::open(file)
+    opening::open(file)
 }
 
 // The digits of an entry's own bytes, as stored.

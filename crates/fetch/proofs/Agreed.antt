@@ -9,9 +9,9 @@ use Rattle.tree.specs.Descent.{outcomeFrom, outcome}
 use Rattle.tree.proofs.Demanded.{grown}
 use Rattle.tree.proofs.Fetch.{fetch-shaped}
 use Rattle.book.specs.Book.{limitsOf, chunkBytes, directoryOf, shapeOf}
-use Rattle.directory.specs.Opened.{opened}
-use Rattle.directory.specs.declared.Opened.the-variants.{Book}
-use Rattle.directory.proofs.Accepted.{opened-book}
+use Rattle.opening.specs.Opened.{opened}
+use Rattle.opening.specs.declared.Opened.the-variants.{Book}
+use Rattle.opening.proofs.Accepted.{opened-book}
 use Rattle.lookup.specs.Lookup.{outcomeIn, lookedUp}
 use Rattle.lookup.specs.Reply.{repliedTo, replyOf, SameAsLookup}
 use Rattle.lookup.specs.declared.Reply.{Reply}

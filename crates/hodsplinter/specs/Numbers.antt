@@ -6,8 +6,8 @@ use lib.ListN.{length, getD, set}
 use Rattle.fields.specs.Part.{partOf}
 use Rattle.header.specs.declared.Record.{Record}
 use Rattle.book.specs.declared.Refusal.{Refusal}
-use Rattle.directory.specs.declared.Opened.{Opened}
-use Rattle.directory.specs.declared.Opened.the-variants.{Book}
+use Rattle.opening.specs.declared.Opened.{Opened}
+use Rattle.opening.specs.declared.Opened.the-variants.{Book}
 use Rattle.lookup.specs.declared.Answer.{Answer}
 use Rattle.lookup.specs.declared.Answer.the-variants.{Found, Absent}
 use Rattle.lookup.specs.declared.Reply.{Reply}
@@ -21,8 +21,8 @@ use Rattle.listing.specs.declared.Owned.{Owned}
 use Rattle.listing.specs.declared.Owned.the-variants.{At, Nothing}
 use Rattle.listing.specs.declared.Page.{Page}
 use Rattle.listing.specs.declared.Page.the-variants.{Entries, Short}
-use Rattle.head.specs.declared.Written.{Written}
-use Rattle.head.specs.declared.Written.the-variants.{Length}
+use Rattle.writer.specs.declared.Written.{Written}
+use Rattle.writer.specs.declared.Written.the-variants.{Length}
 
 -- ---- a record as numbers, in the order of its fields
 

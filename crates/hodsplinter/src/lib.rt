@@ -9,21 +9,21 @@ ghost use Rattle.listing.specs.Listing.{startOf, stepped, ownedAt, pageOf, page
 ghost use Rattle.scan.specs.Scan.{scanned};
 ghost use Rattle.fetch.specs.Fetch.{fetched};
 ghost use Rattle.batch.specs.Batch.{batchOf, answersIn};
-ghost use Rattle.directory.specs.Opened.{opened};
-ghost use Rattle.directory.specs.declared.Opened.the-variants.{Book};
+ghost use Rattle.opening.specs.Opened.{opened};
+ghost use Rattle.opening.specs.declared.Opened.the-variants.{Book};
 ghost use Rattle.hodsplinter.specs.Numbers.{recordIn, numbersOf, refusalCode, openCode, openRecord, lookupCode, lookupNumbers, replyCode, replyNumbers, batchCode, cursorOf, cursorNumbers, stepCode, stepCursor, stepNumbers, ownCode, ownNumbers, pageCode, pageNumbers, partLength, writeCode, writeNumbers};
 ghost use Rattle.compare.specs.Compare.{compareStart};
 ghost use Rattle.hodsplinter.specs.Differences.{walksIn, totalNumbers, walksNumbers, nothing, fifteenOf, comparisonAt, compareCode, compareCursor, compareNumbers, compareTotals};
 ghost use Rattle.layout.specs.Layout.{layoutFor, headBytes};
-ghost use Rattle.head.specs.Head.{written, outputFor};
+ghost use Rattle.writer.specs.Head.{written, outputFor};
 use batch::Batched;
 use book::Own;
 use book::Refusal;
 use book::Report;
 use compare::Shown;
 use compare::Totals;
-use directory::Opened;
-use head::Written;
+use opening::Opened;
+use writer::Written;
 use header::Record;
 use listing::Cursor;
 use listing::Owned;
@@ -95,7 +95,7 @@ pub extern "C" fn hods_open(file: &[u8], record: &mut Numbers) -> u64
     ensures answer { λ r. ⌜ r ≡ openCode (opened (now (file .entry))) ⌝ }
     ensures numbers { λ _. ⌜ now («record» .exit) ≡ openRecord (opened (now (file .entry))) (now («record» .entry)) ⌝ }
 {
-    match directory::open(file) {
+    match opening::open(file) {
         Opened::Book(b) => {
             *record = record_numbers(b);
             0
@@ -472,7 +472,7 @@ pub extern "C" fn hods_write_head(
     ensures output { λ _. ⌜ now (out .exit) ≡ outputFor (written (now (entries .entry)) density «content_length» (length (now (out .entry)))) (headBytes density time language «content_length» (layoutFor density «content_length» (now (entries .entry)))) (now (out .entry)) ⌝ }
     ensures numbers { λ _. ⌜ now («head_length» .exit) ≡ writeNumbers (written (now (entries .entry)) density «content_length» (length (now (out .entry)))) (now («head_length» .entry)) ⌝ }
 {
-    match head::write_head(entries, density, time, language, content_length, out) {
+    match writer::write_head(entries, density, time, language, content_length, out) {
         Written::Length(n) => {
             *head_length = [n];
             0

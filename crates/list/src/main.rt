@@ -1,6 +1,6 @@
 // Lists a book. It is read from standard input, at most 60,000 bytes of it; for each entry, in the order of the listing, a line with the entry's own
 // bytes in lower-case hexadecimal. A refusal is a line too: ee, its number in one byte, its chunk in four, highest first.
-use directory::Opened;
+use opening::Opened;
 use header::Record;
 use walk::Coming;
 use walk::Walk;
@@ -25,7 +25,7 @@ fn write_entries(file: &[u8], book: Record) {
 }
 
 fn write_listing(file: &[u8]) {
-    match directory::open(file) {
+    match opening::open(file) {
         Opened::Book(book) => write_entries(file, book),
         Opened::Refused(r) => {
             frames::write_refusal(r);

@@ -11,13 +11,13 @@ use Rattle.tree.specs.Shape.{noChunk, nextOf}
 use Rattle.tree.specs.Chain.{chainFrom, chain, linked}
 use Rattle.tree.proofs.Linked.{onLink, linked-chunk, chain-linked, good-filled, listed}
 use Rattle.book.specs.Book.{directoryOf, shapeOf, bookFits}
-use Rattle.directory.specs.Opened.{opened}
-use Rattle.directory.specs.declared.Opened.the-variants.{Book}
+use Rattle.opening.specs.Opened.{opened}
+use Rattle.opening.specs.declared.Opened.the-variants.{Book}
 use Rattle.listing.specs.Listing.{cursorAt, startOf, stepped, reportsIn}
 use Rattle.listing.specs.Whole.{wholeListing, lastCursor, ListingExact}
 use Rattle.listing.specs.declared.Cursor.{Cursor}
 use Rattle.listing.specs.declared.Step.the-variants.{End}
-use Rattle.directory.proofs.Accepted.{opened-book}
+use Rattle.opening.proofs.Accepted.{opened-book}
 use Rattle.listing.proofs.Stepping.{step-end}
 use Rattle.listing.proofs.Run.{Run, run-append, run-steps, end-steps, run-take, run-chunk}
 

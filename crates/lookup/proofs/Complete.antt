@@ -20,14 +20,14 @@ use Rattle.tree.proofs.Demanded.{demand-3}
 use Rattle.book.specs.Book.{directoryOf, shapeOf, reportOf}
 use Rattle.book.specs.declared.Report.{Report}
 use Rattle.book.specs.declared.Refusal.{Refusal}
-use Rattle.directory.specs.Opened.{opened}
-use Rattle.directory.specs.declared.Opened.the-variants.{Book}
+use Rattle.opening.specs.Opened.{opened}
+use Rattle.opening.specs.declared.Opened.the-variants.{Book}
 use Rattle.lookup.specs.Lookup.{outcomeIn, trailIn, countIn, effortIn, answerOf, unless, lookedUp, trailAfter}
 use Rattle.lookup.specs.Complete.{Complete}
 use Rattle.lookup.specs.declared.Effort.{Effort}
 use Rattle.lookup.specs.declared.Answer.{Answer}
 use Rattle.lookup.specs.declared.Answer.the-variants.{Found, Absent, Refused}
-use Rattle.directory.proofs.Accepted.{OpenedBook, opened-book}
+use Rattle.opening.proofs.Accepted.{OpenedBook, opened-book}
 use Rattle.lookup.proofs.Trail.{sets-front}
 
 -- ---- what an answer tells of the outcome that it is for

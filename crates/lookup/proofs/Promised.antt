@@ -12,8 +12,8 @@ use Rattle.header.specs.declared.Record.{Record}
 use Rattle.tree.specs.Tree.{top}
 use Rattle.tree.specs.Descent.{outcome, trail}
 use Rattle.book.specs.Book.{shapeOf, bookFits}
-use Rattle.directory.specs.Opened.{opened}
-use Rattle.directory.specs.declared.Opened.the-variants.{Book}
+use Rattle.opening.specs.Opened.{opened}
+use Rattle.opening.specs.declared.Opened.the-variants.{Book}
 use Rattle.lookup.specs.Lookup.{trailIn, outcomeIn, effortIn, refusal, answerOf, lookedUp, trailAfter}
 use Rattle.lookup.specs.Step.{effortAfter, Descended}
 use Rattle.lookup.specs.Complete.{Complete}

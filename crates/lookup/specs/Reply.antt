@@ -8,8 +8,8 @@ use Rattle.names.specs.Names.{askable}
 use Rattle.header.specs.declared.Record.{Record}
 use Rattle.tree.specs.Descent.{Outcome, found, absent, refused}
 use Rattle.book.specs.Book.{bookFits, refusalOf, reportOf}
-use Rattle.directory.specs.Opened.{opened}
-use Rattle.directory.specs.declared.Opened.the-variants.{Book}
+use Rattle.opening.specs.Opened.{opened}
+use Rattle.opening.specs.declared.Opened.the-variants.{Book}
 use Rattle.lookup.specs.Lookup.{lookedUp}
 use Rattle.lookup.specs.declared.Answer.{Answer}
 use Rattle.lookup.specs.declared.Reply.{Reply}

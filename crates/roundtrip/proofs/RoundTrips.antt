@@ -18,9 +18,9 @@ use Rattle.header.specs.declared.Record.{Record}
 use Rattle.book.specs.Book.{limitsOf, chunkPlace, chunkBytes, directoryOf, reportOf}
 use Rattle.book.specs.declared.Report.{Report}
 use Rattle.book.proofs.Laws.{chunk-inside}
-use Rattle.directory.specs.Opened.{chunksThen, linkedBook, opened}
-use Rattle.directory.specs.declared.Opened.{Opened}
-use Rattle.directory.specs.declared.Opened.the-variants.{Book}
+use Rattle.opening.specs.Opened.{chunksThen, linkedBook, opened}
+use Rattle.opening.specs.declared.Opened.{Opened}
+use Rattle.opening.specs.declared.Opened.the-variants.{Book}
 use Rattle.listing.specs.Listing.{reportsIn}
 use Rattle.listing.specs.Whole.{wholeListing}
 use Rattle.source.specs.Stored.{Stored}

@@ -7,8 +7,8 @@ use lib.ListN.{length}
 use Rattle.fields.specs.Part.{part}
 use Rattle.header.specs.declared.Record.{Record}
 use Rattle.book.specs.declared.Report.{Report}
-use Rattle.directory.specs.Opened.{opened}
-use Rattle.directory.specs.declared.Opened.the-variants.{Book}
+use Rattle.opening.specs.Opened.{opened}
+use Rattle.opening.specs.declared.Opened.the-variants.{Book}
 use Rattle.listing.specs.Whole.{wholeListing}
 use Rattle.source.specs.Stored.{Stored}
 use Rattle.layout.specs.Headers.{headLength}

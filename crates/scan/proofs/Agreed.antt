@@ -9,9 +9,9 @@ use Rattle.header.specs.declared.Record.{Record}
 use Rattle.tree.proofs.Reading.{plain-same}
 use Rattle.book.specs.Book.{directoryOf, shapeOf, refusalOf}
 use Rattle.book.specs.declared.Refusal.{Refusal}
-use Rattle.directory.specs.Opened.{opened}
-use Rattle.directory.specs.declared.Opened.the-variants.{Book}
-use Rattle.directory.proofs.Accepted.{opened-book}
+use Rattle.opening.specs.Opened.{opened}
+use Rattle.opening.specs.declared.Opened.the-variants.{Book}
+use Rattle.opening.proofs.Accepted.{opened-book}
 use Rattle.lookup.specs.Lookup.{lookedUp}
 use Rattle.lookup.specs.Reply.{repliedTo, replyOf, SameAsLookup}
 use Rattle.lookup.specs.declared.Reply.{Reply}

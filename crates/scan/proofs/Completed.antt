@@ -15,11 +15,11 @@ use Rattle.tree.specs.Demand.{PlainDemand}
 use Rattle.tree.proofs.Reading.{plain-demand}
 use Rattle.book.specs.Book.{directoryOf, shapeOf, reportOf}
 use Rattle.book.specs.declared.Refusal.{Refusal}
-use Rattle.directory.specs.Opened.{opened}
-use Rattle.directory.specs.Refusals.{Told, head, chunk, chain, tree}
-use Rattle.directory.specs.declared.Opened.{Opened}
-use Rattle.directory.proofs.Accepted.{head-fits}
-use Rattle.directory.proofs.Refusals.{refusal-told}
+use Rattle.opening.specs.Opened.{opened}
+use Rattle.opening.specs.Refusals.{Told, head, chunk, chain, tree}
+use Rattle.opening.specs.declared.Opened.{Opened}
+use Rattle.opening.proofs.Accepted.{head-fits}
+use Rattle.opening.proofs.Refusals.{refusal-told}
 use Rattle.lookup.specs.Reply.{replyTo}
 use Rattle.lookup.proofs.Replies.{replied-search}
 use Rattle.lookup.specs.declared.Reply.the-variants.{Refused}

@@ -4,7 +4,7 @@ use mathlib.Core.Path.{ap}
 use native.Mathlib.Omega.{arith}
 use lib.ListN.{length}
 use denote.Ref.{now}
-use Rattle.directory.specs.declared.Opened.the-variants.{Refused}
+use Rattle.opening.specs.declared.Opened.the-variants.{Refused}
 use Rattle.diff.proofs.open_file.Statement.{statement}
 use Rattle.diff.proofs.open_file.Tie as tie
 

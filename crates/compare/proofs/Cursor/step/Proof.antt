@@ -8,8 +8,8 @@ use native.Mathlib.Omega.{arith}
 use denote.Ref.{now}
 use Rattle.header.specs.declared.Record.{Record}
 use Rattle.book.specs.declared.Refusal.{Refusal}
-use Rattle.directory.specs.Opened.{opened}
-use Rattle.directory.specs.declared.Opened.the-variants.{Book}
+use Rattle.opening.specs.Opened.{opened}
+use Rattle.opening.specs.declared.Opened.the-variants.{Book}
 use Rattle.walk.specs.Walk.{weight}
 use Rattle.compare.specs.Compare.{compareStart, turned, compareStep, load, Lighter}
 use Rattle.compare.specs.Compared.{afterSteps}

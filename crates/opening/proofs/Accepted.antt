@@ -1,0 +1,87 @@
+-- What opening has established of a book that it accepts: `opened-book`.
+-- Assumes nothing.
+use mathlib.Core.Path.{_≡_, refl, subst}
+use mathlib.Core.Bool.{Bool, true, false, cond}
+use mathlib.Core.List.{List}
+use Prim.Native.Nat.{ℕ, zero, suc, _+_, _≤_, _<_}
+use native.Mathlib.Omega.{arith}
+use native.Mathlib.Decide.{ℕ-discrete}
+use lib.ListN.{length}
+use lib.Dec.{eqb}
+use borrow.Author.Tests.{eqb-true, le-leb}
+use Rattle.chunk.specs.Chunk.{Parsed, faultOf}
+use Rattle.header.specs.Header.{headOf}
+use Rattle.header.specs.declared.Record.{Record}
+use Rattle.header.specs.declared.Head.{Head}
+use Rattle.header.specs.declared.Head.the-variants.{Good}
+use Rattle.header.proofs.Accepted.{accepted}
+use Rattle.tree.specs.Chain.{chainOk}
+use Rattle.tree.specs.Tree.{treeOk}
+use Rattle.tree.specs.Demand.{GoodDirectory}
+use Rattle.book.specs.Book.{directoryOf, shapeOf, bookFits}
+use Rattle.opening.specs.Opened.{refusal, refusalAt, chunksThen, linkedBook, withHead, opened}
+use Rattle.opening.specs.declared.Opened.{Opened}
+use Rattle.opening.specs.declared.Opened.the-variants.{Book}
+use Rattle.opening.proofs.Links.{chunks-good}
+
+-- ---- what a book that comes out of the checks has passed
+
+chunks-passed : (D : ℕ → Parsed) (r : Record) (x : Opened) (n c : ℕ) → chunksThen D n c x ≡ Book r
+    → ((k : ℕ) → c ≤ k → k < c + n → faultOf (D k) ≡ 0) × (x ≡ Book r)
+unfolding chunksThen
+chunks-passed D r x zero c e = ((λ k l h. absurd (omega arith)), e)
+chunks-passed D r x (suc n) c e = go (eqb (faultOf (D c)) 0) refl (λ q. chunks-passed D r x n (c + 1) q) e
+  where
+    go : (t : Bool) → eqb (faultOf (D c)) 0 ≡ t
+        → (chunksThen D n (c + 1) x ≡ Book r → ((k : ℕ) → c + 1 ≤ k → k < c + 1 + n → faultOf (D k) ≡ 0) × (x ≡ Book r))
+        → cond t (chunksThen D n (c + 1) x) (refusalAt (faultOf (D c)) c) ≡ Book r
+        → ((k : ℕ) → c ≤ k → k < c + suc n → faultOf (D k) ≡ 0) × (x ≡ Book r)
+    go true q f e = (
+      (λ k l h. elim (ℕ-discrete c k) [
+        | yes p ↦ subst (λ j. faultOf (D j) ≡ 0) p (eqb-true (faultOf (D c)) 0 q)
+        | no p ↦ f e .0 k (omega arith) (omega arith)
+      ]),
+      f e .1,
+    )
+    go false q f e = let z : _≡_ {A = ℕ} 0 1 = cc in absurd (omega arith)
+
+linked-passed : (s : List ℕ) (b r : Record) → linkedBook s b ≡ Book r
+    → (chainOk (directoryOf s b) (shapeOf b) ≡ true) × (treeOk (directoryOf s b) (shapeOf b) ≡ true) × (b ≡ r)
+unfolding linkedBook
+linked-passed s b r e = go (chainOk (directoryOf s b) (shapeOf b)) (treeOk (directoryOf s b) (shapeOf b)) e
+  where
+    go : (x y : Bool) → cond x (cond y (Book b) (refusal 14)) (refusal 13) ≡ Book r → (x ≡ true) × (y ≡ true) × (b ≡ r)
+    go true true e = (refl, refl, cc)
+    go true false e = let z : _≡_ {A = ℕ} 0 1 = cc in absurd (omega arith)
+    go false y e = let z : _≡_ {A = ℕ} 0 1 = cc in absurd (omega arith)
+
+pub record OpenedBook (s : List ℕ) (r : Record) : Type 0 where
+  pub head : headOf s ≡ Good r
+  pub directory : GoodDirectory (directoryOf s r) (shapeOf r)
+  pub fits : bookFits s r ≡ true
+
+pub head-fits : (s : List ℕ) (r : Record) → headOf s ≡ Good r → bookFits s r ≡ true
+unfolding bookFits
+head-fits s r e =
+    let a = accepted s r e in
+    simp (le-leb (r .density) 7 (a .density), le-leb 1 (r .depth) (a .depth-low), le-leb (r .depth) 5 (a .depth-high), le-leb 1 (r .count) (a .count-low), le-leb (r .count) 4096 (a .count-high), le-leb (r .content) (length s) (a .content))
+
+pub opened-book : (s : List ℕ) (r : Record) → opened s ≡ Book r → OpenedBook s r
+unfolding opened
+opened-book s r e = go (headOf s) refl e
+  where
+    go : (h : Head) → headOf s ≡ h → withHead h (λ b. chunksThen (directoryOf s b) (b .count) 0 (linkedBook s b)) ≡ Book r → OpenedBook s r
+    go (Good b) q e =
+        let c = chunks-passed (directoryOf s b) r (linkedBook s b) (b .count) 0 e in
+        let l = linked-passed s b r (c .1) in
+        subst (OpenedBook s) (l .2)
+        (record {
+          head = q;
+          directory = record {
+            chunks = chunks-good s b (record { few = accepted s b q .count-high; good = λ k h. c .0 k (omega arith) (omega arith) });
+            chain-passes = l .0;
+            tree-passes = l .1;
+          };
+          fits = head-fits s b q;
+        })
+    go (Head.Refused n) q e = let z : _≡_ {A = ℕ} 0 1 = cc in absurd (omega arith)

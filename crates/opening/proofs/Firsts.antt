@@ -1,0 +1,125 @@
+-- The first and the last entry of a good chunk: they are there, lie inside its bytes, and have its first and its last name.
+-- Assumes nothing.
+use mathlib.Core.Path.{_≡_, refl, sym, ap, subst, _∙_}
+use mathlib.Core.Bool.{Bool, true, false, cond, _||_}
+use mathlib.Core.List.{List, [], _∷_}
+use Prim.Native.Nat.{ℕ, zero, suc, _+_, _-_, _/_, _%_, _≤_, _<_}
+use native.Mathlib.Omega.{arith}
+use lib.ListN.{length}
+use lib.Dec.{ltb}
+use Rattle.entries.specs.Entry.{itemAt, nameOf}
+use Rattle.entries.specs.declared.Limits.{Limits}
+use Rattle.entries.specs.declared.Place.{Place}
+use Rattle.entries.specs.declared.Item.{Item}
+use Rattle.entries.specs.declared.Item.the-variants.{Good, Bad}
+use Rattle.entries.proofs.Laws.{item-inside}
+use Rattle.chunk.specs.Chunk.{Entry, tagOf, withItem, entryOf, headOf, countOf, tailOf, spacingOf, parsed, entriesIn, isKind}
+use Rattle.chunk.proofs.Accepted.{accepted, entries-count}
+use Rattle.seek.specs.Seek.{Sought, absent, found, nth, nameIn, final, soughtOf, afterAt, groupAt, nthIn, firstIn, lastIn}
+use Rattle.seek.specs.declared.Hit.{Hit}
+use Rattle.seek.specs.declared.Hit.the-variants.{At, Nothing}
+use Rattle.seek.proofs.Good.{nth-good, last-good}
+use Rattle.header.specs.declared.Record.{Record}
+use Rattle.book.specs.Book.{limitsOf, chunkBytes, directoryOf}
+use Rattle.opening.specs.Passes.{GoodBook, FirstHit}
+use Rattle.opening.proofs.Tags.{kind-true}
+use Rattle.fields.specs.Same.{standsAt}
+
+-- ---- what a walk over places gives lies inside
+
+no-hit : {e : Place} {A : Type 0} → Nothing ≡ At e → A
+no-hit q = absurd (let z : _≡_ {A = ℕ} 0 1 = cc in omega arith)
+
+after-inside : (limits : Limits) (k : Bool) (s : List ℕ) (j at : ℕ) (e : Place) → afterAt limits k s j at ≡ At e → e .start + e .len ≤ length s
+unfolding afterAt
+after-inside limits k s zero at e q = here (itemAt limits k s at) refl q
+  where
+    here : (i : Item) → itemAt limits k s at ≡ i → withItem i Nothing (λ p. At p) ≡ At e → e .start + e .len ≤ length s
+    here Bad g d = no-hit d
+    here (Good p) g d = let z : p ≡ e = cc in subst (λ (x : Place). x .start + x .len ≤ length s) z (item-inside limits k s at p g .name)
+after-inside limits k s (suc j) at e q = on (itemAt limits k s at) (λ p. after-inside limits k s j (p .next) e) q
+  where
+    on : (i : Item) → ((p : Place) → afterAt limits k s j (p .next) ≡ At e → e .start + e .len ≤ length s)
+        → withItem i Nothing (λ p. afterAt limits k s j (p .next)) ≡ At e → e .start + e .len ≤ length s
+    on Bad f d = no-hit d
+    on (Good p) f d = f p d
+
+pub nth-inside : (limits : Limits) (k : Bool) (s : List ℕ) (i : ℕ) (e : Place) → nthIn limits k s i ≡ At e → e .start + e .len ≤ length s
+unfolding nthIn
+nth-inside limits k s i e q = go (ltb i (countOf s)) q
+  where
+    n : ℕ
+    n = spacingOf (limits .density)
+
+    go : (t : Bool) → cond t (afterAt limits k s (i % n) (groupAt k s (i / n))) Nothing ≡ At e → e .start + e .len ≤ length s
+    go true d = after-inside limits k s (i % n) (groupAt k s (i / n)) e d
+    go false d = no-hit d
+
+-- ---- a chunk with entries has a first and a last one
+
+abbrev There : Sought → Type 0
+There absent = ⊥
+There (found e) = Unit {0}
+
+first-there : (es : List Entry) → 0 < length es → There (nth 0 es)
+unfolding nth
+first-there [] h = absurd (omega arith)
+first-there (e ∷ es) h = tt
+
+final-there : (e : Entry) (es : List Entry) → There (final (found e) es)
+unfolding final
+final-there e [] = tt
+final-there e (d ∷ es) = final-there d es
+
+last-there : (es : List Entry) → 0 < length es → There (final absent es)
+unfolding final
+last-there [] h = absurd (omega arith)
+last-there (e ∷ es) h = final-there e es
+
+-- an answer of a search that finds an entry: it lies inside, and has the entry's name
+pub record Hits (s : List ℕ) (e : Place) (name : List ℕ) : Type 0 where
+  pub inside : e .start + e .len ≤ length s
+  pub named : nameOf s e ≡ name
+
+module _ (limits : Limits) (k : Bool) (s : List ℕ) (h : isKind k (parsed limits s) ≡ true) where
+  es : List Entry
+  es = entriesIn (parsed limits s)
+
+  some : 0 < length es
+  unfolding es
+  some =
+      let g = accepted limits k s h in
+      let n = entries-count limits k s (4096 - tailOf s) (countOf s) (headOf k) (entriesIn (parsed limits s)) (g .entries) in
+      let c = g .some in
+      omega arith
+
+  pub first-is : (x : Hit) → x ≡ firstIn limits k s → soughtOf s x ≡ nth 0 (entriesIn (parsed limits s))
+  first-is x q = rw q (nth-good limits s k 0 h)
+
+  pub last-is : (x : Hit) → x ≡ lastIn limits k s → soughtOf s x ≡ final absent (entriesIn (parsed limits s))
+  last-is x q = rw q (last-good limits s k h)
+
+  pub first-found : Nothing ≡ firstIn limits k s → ⊥
+  unfolding es
+  first-found q = subst There (sym (first-is Nothing q)) (first-there (entriesIn (parsed limits s)) some)
+
+  pub last-found : Nothing ≡ lastIn limits k s → ⊥
+  unfolding es
+  last-found q = subst There (sym (last-is Nothing q)) (last-there (entriesIn (parsed limits s)) some)
+
+  pub first-hit : (e : Place) → At e ≡ firstIn limits k s → Hits s e (nameIn (nth 0 (entriesIn (parsed limits s))))
+  first-hit e q = record { inside = nth-inside limits k s 0 e (sym q); named = ap nameIn (first-is (At e) q) }
+
+  pub last-hit : (e : Place) → At e ≡ lastIn limits k s → Hits s e (nameIn (final absent (entriesIn (parsed limits s))))
+  last-hit e q = record { inside = nth-inside limits k s (countOf s - 1) e (sym q); named = ap nameIn (last-is (At e) q) }
+
+-- ---- the first entry of a chunk of a good book
+
+pub first-of-good : (s : List ℕ) (r : Record) → GoodBook s r → (c : ℕ) → c < r .count → (x : Hit)
+    → x ≡ firstIn (limitsOf s r) (standsAt (chunkBytes s r c) 0 (tagOf true)) (chunkBytes s r c) → FirstHit s r c x
+unfolding directoryOf
+first-of-good s r good c l x q = go (standsAt (chunkBytes s r c) 0 (tagOf true)) refl x q
+  where
+    go : (k : Bool) → standsAt (chunkBytes s r c) 0 (tagOf true) ≡ k → (x : Hit) → x ≡ firstIn (limitsOf s r) k (chunkBytes s r c) → FirstHit s r c x
+    go k e Nothing q = absurd (first-found (limitsOf s r) k (chunkBytes s r c) (kind-true s r good c l k e) q)
+    go k e (At p) q = let h = first-hit (limitsOf s r) k (chunkBytes s r c) (kind-true s r good c l k e) p q in (h .inside, h .named)

@@ -1,0 +1,33 @@
+use borrow.Author.Needs.{needs}
+use mathlib.Core.Path.{_≡_, sym, ap, _∙_}
+use mathlib.Core.Bool.{not}
+use native.Mathlib.Omega.{arith}
+use denote.Ref.{now}
+use Rattle.opening.proofs.Tags.{index-inside, index-outside}
+use Rattle.opening.proofs.is_index.Statement.{statement}
+use Rattle.opening.proofs.is_index.Tie as tie
+
+returns : tie.Need-returns
+returns c =
+    let a = c .before .before .before .args in
+    sym (index-outside (now (a .file)) (a .book) (a .c) (omega arith))
+
+chunk-bytes-requires : tie.Need-chunk-bytes-requires
+chunk-bytes-requires c κs = search needs
+
+slice-aggregate-stands-at : tie.Need-slice-aggregate-stands-at
+slice-aggregate-stands-at c = search needs
+
+stands-at-requires : tie.Need-stands-at-requires
+stands-at-requires c κs = search needs
+
+returns-2 : tie.Need-returns-2
+returns-2 c =
+    let e = c .before .before .before in
+    let a = e .before .before .before .args in
+    rw (index-inside (now (a .file)) (a .book) (e .before .before .before .pre) (a .c) (omega arith), ← c .before .before .chunk-bytes .ensures) (ap not (c .stands-at .ensures))
+
+pub is-index-spec : {M : Type 1} → statement M
+is-index-spec =
+    tie.close
+    (tie.spec returns chunk-bytes-requires slice-aggregate-stands-at stands-at-requires returns-2)

@@ -1,0 +1,117 @@
+use borrow.Author.Needs.{needs}
+use borrow.Author.Tests.{eq-eqb, ne-eqb}
+use mathlib.Core.Path.{_≡_, sym, ap, _∙_}
+use mathlib.Core.Bool.{true}
+use denote.Ref.{now}
+use Rattle.fields.proofs.Tests.{held, failed}
+use Rattle.tree.specs.Shape.{noChunk, previousOf, nextOf, listingChunk}
+use Rattle.book.specs.Book.{directoryOf, shapeOf}
+use Rattle.opening.specs.Passes.{linkOf}
+use Rattle.opening.proofs.Tags.{Tagged, tagged-chunk, listing-is, listing-below}
+use Rattle.opening.proofs.link_from.Statement.{statement}
+use Rattle.opening.proofs.link_from.Tie as tie
+
+-- c is a listing chunk, and its links are read
+is-there : (c : tie.Else1) → let a = c .before .before .before .args in listingChunk (directoryOf (now (a .file)) (a .book)) (shapeOf (a .book)) (a .c) ≡ true
+is-there c = held (c .before .is-listing .ensures) (c .if1 .left)
+
+tagged-is : (c : tie.After-chunk-bytes) → let a = c .before .before .before .before .args in
+    Tagged (directoryOf (now (a .file)) (a .book) (a .c)) (now (c .chunk-bytes .result))
+tagged-is c =
+    let k = c .before .before .before .before in
+    let a = k .args in
+    rw (c .chunk-bytes .ensures) (tagged-chunk (now (a .file)) (a .book) (k .pre) (a .c) (listing-below _ _ _ (is-there (c .before))))
+
+previous-is : (c : tie.After-le32) → let a = c .before .before .before .before .before .args in
+    previousOf (directoryOf (now (a .file)) (a .book) (a .c)) ≡ c .le32 .result
+previous-is c = tagged-is (c .before) .previous (listing-is _ _ _ (is-there (c .before .before))) ∙ sym (c .le32 .ensures)
+
+next-is : (c : tie.After-le322) → let a = c .before .before .before .before .before .before .before .args in
+    nextOf (directoryOf (now (a .file)) (a .book) (a .c)) ≡ c .le322 .result
+next-is c = let b = c .before .before .before in tagged-is b .next (listing-is _ _ _ (is-there (b .before))) ∙ sym (c .le322 .ensures)
+
+is-listing-requires : tie.Need-is-listing-requires
+is-listing-requires c κs = search needs
+
+returns : tie.Need-returns
+unfolding linkOf
+returns c = rw (failed (c .before .is-listing .ensures) (c .if1 .taken))
+
+chunk-bytes-requires : tie.Need-chunk-bytes-requires
+chunk-bytes-requires c κs = search needs
+
+le32-requires : tie.Need-le32-requires
+le32-requires c κs = search needs
+
+cast-if2 : tie.Need-cast-if2
+cast-if2 c = search needs
+
+returns-2 : tie.Need-returns-2
+unfolding linkOf
+returns-2 c = rw (is-there (c .before .before .before), previous-is (c .before), ne-eqb _ _ (c .if2 .taken))
+
+le32-requires-2 : tie.Need-le32-requires-2
+le32-requires-2 c κs = search needs
+
+cast-next : tie.Need-cast-next
+cast-next c = search needs
+
+returns-3 : tie.Need-returns-3
+unfolding linkOf
+returns-3 c =
+    let e = c .before .before in
+    rw (is-there (e .before .before .before), previous-is (e .before), eq-eqb _ _ (e .if2 .left), next-is (c .before), eq-eqb _ _ (c .if3 .taken))
+
+is-listing-requires-2 : tie.Need-is-listing-requires-2
+is-listing-requires-2 c κs = search needs
+
+returns-4 : tie.Need-returns-4
+unfolding linkOf
+returns-4 c =
+    let n = c .before .before in
+    let e = n .before .before in
+    rw (is-there (e .before .before .before), previous-is (e .before), eq-eqb _ _ (e .if2 .left), next-is (n .before), ne-eqb _ _ (n .if3 .left), failed (c .before .is-listing2 .ensures) (c .if4 .taken))
+
+names-rise-requires : tie.Need-names-rise-requires
+names-rise-requires c κs =
+    let n = c .before .before in
+    let e = n .before .before in
+    let k = e .before .before .before .before .before .before in
+    (k .pre, listing-below _ _ _ (held (c .before .is-listing2 .ensures) (c .if4 .left)), is-there (e .before .before .before))
+
+returns-5 : tie.Need-returns-5
+unfolding linkOf
+returns-5 c =
+    let r = c .before in
+    let l = r .before in
+    let n = l .before .before in
+    let e = n .before .before in
+    rw (is-there (e .before .before .before), previous-is (e .before), eq-eqb _ _ (e .if2 .left), next-is (n .before), ne-eqb _ _ (n .if3 .left), held (l .before .is-listing2 .ensures) (l .if4 .left), sym (r .names-rise .ensures) ∙ c .if5 .taken)
+
+returns-6 : tie.Need-returns-6
+unfolding linkOf
+returns-6 c =
+    let r = c .before in
+    let l = r .before in
+    let n = l .before .before in
+    let e = n .before .before in
+    rw (is-there (e .before .before .before), previous-is (e .before), eq-eqb _ _ (e .if2 .left), next-is (n .before), ne-eqb _ _ (n .if3 .left), held (l .before .is-listing2 .ensures) (l .if4 .left), sym (r .names-rise .ensures) ∙ c .if5 .left)
+
+pub link-from-spec : {M : Type 1} → statement M
+link-from-spec =
+    tie.close
+    (tie.spec
+    is-listing-requires
+    returns
+    chunk-bytes-requires
+    le32-requires
+    cast-if2
+    returns-2
+    le32-requires-2
+    cast-next
+    returns-3
+    is-listing-requires-2
+    returns-4
+    names-rise-requires
+    returns-5
+    returns-6)
