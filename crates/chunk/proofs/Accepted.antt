@@ -10,12 +10,12 @@ use lib.Dec.{ltb, leb, eqb}
 use borrow.Author.Tests.{eqb-true, leb-true, ltb-true}
 use Rattle.fields.specs.Same.{standsAt}
 use Rattle.fields.proofs.Tests.{never, and-both}
-use Rattle.entries.specs.Entry.{itemAt}
+use Rattle.entries.specs.Entry.{itemAt, withItem}
 use Rattle.entries.specs.declared.Limits.{Limits}
 use Rattle.entries.specs.declared.Place.{Place}
 use Rattle.entries.specs.declared.Item.{Item}
 use Rattle.entries.specs.declared.Item.the-variants.{Good, Bad}
-use Rattle.chunk.specs.Chunk.{Entry, Entries, broken, all, Parsed, bad, listing, index, tagOf, made, push, withItem, entryOf, entriesAt, rising, quick, quickCount, headOf, countOf, tailOf, spacingOf, framed, judged, parsedAs, parsed, faultOf, entriesIn, isKind}
+use Rattle.chunk.specs.Chunk.{Entry, Entries, broken, all, Parsed, bad, listing, index, tagOf, made, push, entryOf, entriesAt, rising, quick, quickCount, headOf, countOf, tailOf, spacingOf, framed, judged, parsedAs, parsed, faultOf, entriesIn, isKind}
 use Rattle.chunk.specs.Answer.{chunkOf}
 use Rattle.chunk.specs.declared.Chunk.{Chunk}
 use Rattle.chunk.specs.declared.Chunk.the-variants.{Refused, Listing, Index}

@@ -8,11 +8,9 @@ use lib.Dec.{ltb, leb, eqb}
 use Rattle.fields.specs.Le.{le}
 use Rattle.fields.specs.Same.{standsAt}
 use Rattle.names.specs.Names.{below}
-use Rattle.entries.specs.Entry.{itemAt, nameOf}
+use Rattle.entries.specs.Entry.{withItem, itemAt, nameOf}
 use Rattle.entries.specs.declared.Limits.{Limits}
 use Rattle.entries.specs.declared.Place.{Place}
-use Rattle.entries.specs.declared.Item.{Item}
-use Rattle.entries.specs.declared.Item.the-variants.{Good}
 
 -- ---- what a chunk can mean
 
@@ -80,10 +78,6 @@ entryOf s e =
 abbrev pub push : Entry → Entries → Entries
 push e broken = broken
 push e (all es) = all (e ∷ es)
-
-abbrev pub withItem : {A : Type 0} → Item → A → (Place → A) → A
-withItem Item.Bad d f = d
-withItem (Good e) d f = f e
 
 -- n entries one behind another from a place on, the last of which ends at `end`
 unfoldable pub entriesAt : Limits → Bool → List ℕ → ℕ → ℕ → ℕ → Entries

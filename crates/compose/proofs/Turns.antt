@@ -10,7 +10,7 @@ use lib.Seq.{sets}
 use Rattle.entries.specs.declared.Place.{Place}
 use Rattle.chunk.specs.Chunk.{headOf}
 use Rattle.chunk.proofs.Frame.{head-small}
-use Rattle.source.specs.Stored.{Stored, storedOf, entryBytes}
+use Rattle.entries.specs.Stored.{Stored, storedOf, entryBytes}
 use Rattle.source.specs.Source.{itemFrom, rowsFrom}
 use Rattle.source.proofs.Rows.{run-more}
 use Rattle.pack.specs.Fill.{rowSize, fitOf, extentFrom}

@@ -15,7 +15,7 @@ use Rattle.fields.proofs.Le.{length-bytes}
 use Rattle.entries.specs.declared.Place.{Place}
 use Rattle.chunk.specs.Chunk.{headOf, quickCount}
 use Rattle.chunk.proofs.Frame.{head-small}
-use Rattle.source.specs.Stored.{Stored, storedOf}
+use Rattle.entries.specs.Stored.{Stored, storedOf}
 use Rattle.source.specs.Source.{rowsFrom}
 use Rattle.source.proofs.All.{All, all-take, all-weaken}
 use Rattle.source.proofs.Rows.{Row, rows-all}

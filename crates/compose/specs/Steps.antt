@@ -7,7 +7,7 @@ use lib.ListN.{length, take, replicate}
 use lib.Dec.{ltb, eqb}
 use Rattle.fields.specs.Le.{bytes}
 use Rattle.chunk.specs.Chunk.{headOf, quickCount}
-use Rattle.source.specs.Stored.{Stored, storedOf}
+use Rattle.entries.specs.Stored.{Stored, storedOf}
 use Rattle.source.specs.Source.{rowsFrom}
 use Rattle.compose.specs.NewChunk.{runBytes, quickWords, entriesEnd}
 

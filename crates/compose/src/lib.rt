@@ -11,7 +11,7 @@ ghost use Rattle.fields.specs.Part.{inside, part};
 ghost use Rattle.fields.specs.Put.{put};
 ghost use Rattle.encint.specs.Encint.{encoded};
 ghost use Rattle.chunk.specs.Chunk.{headOf};
-ghost use Rattle.source.specs.Stored.{storedOf, entryBytes};
+ghost use Rattle.entries.specs.Stored.{storedOf, entryBytes};
 ghost use Rattle.source.specs.Source.{rowsFrom};
 ghost use Rattle.pack.specs.Fill.{rowSize, extentFrom};
 ghost use Rattle.compose.specs.NewChunk.{wordBytes, chunkHead, newChunk};

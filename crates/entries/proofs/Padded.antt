@@ -1,21 +1,57 @@
--- A listing entry that was read stands there, each of its numbers in its short form behind bytes 80 or none.
+-- A listing entry that was read stands there, each of its numbers in its short form behind bytes 80 or none; it is unpadded exactly where its own
+-- bytes are those that are written for it.
 -- Assumes nothing.
 use mathlib.Core.Path.{_≡_, sym, ap, ap₂, _∙_}
+use mathlib.Core.Logic.{_↔_}
+use mathlib.Core.Bool.{true}
 use mathlib.Core.List.{List, _++_}
 use Prim.Native.Nat.{ℕ, _+_, _-_, _≤_, _<_}
 use native.Mathlib.Omega.{arith}
-use lib.ListN.{length, getD}
+use lib.ListN.{length, getD, drop, length-append}
+use borrow.Author.Tests.{eq-eqb, eqb-true}
 use Rattle.fields.specs.Part.{part}
-use Rattle.fields.proofs.Parts.{length-part, part-add}
+use Rattle.fields.proofs.Parts.{length-part, part-add, part-rest}
 use Rattle.encint.specs.Encint.{encintAt, encoded}
 use Rattle.encint.specs.Padded.{padded}
 use Rattle.encint.specs.declared.Number.the-variants.{Value}
-use Rattle.encint.proofs.Padded.{padded-encint}
+use Rattle.encint.proofs.Padded.{padded-encint, length-padded}
 use Rattle.entries.specs.Entry.{listingAt, nameOf}
 use Rattle.entries.specs.Padded.{PaddedEntry}
+use Rattle.entries.specs.Stored.{Stored, storedOf, entryBytes, unpadded}
 use Rattle.entries.specs.declared.Place.{Place}
 use Rattle.entries.specs.declared.Item.the-variants.{Good}
 use Rattle.entries.proofs.Laws.{name-number, listing-apart, listing-inside}
+
+length-five : (a b c d e : List ℕ) → length (a ++ (b ++ (c ++ (d ++ e)))) ≡ length a + length b + length c + length d + length e
+length-five a b c d e = omega (arith, length-append a (b ++ (c ++ (d ++ e))), length-append b (c ++ (d ++ e)), length-append c (d ++ e), length-append d e)
+
+-- no byte 80 in front of any number
+none-padded : (k₀ k₁ k₂ k₃ : ℕ) (e : Stored) → k₀ ≡ 0 → k₁ ≡ 0 → k₂ ≡ 0 → k₃ ≡ 0
+    → padded k₀ (length (e .name)) ++ (e .name ++ (padded k₁ (e .section) ++ (padded k₂ (e .offset) ++ padded k₃ (e .size)))) ≡ entryBytes true e
+unfolding entryBytes
+none-padded k₀ k₁ k₂ k₃ e h₀ h₁ h₂ h₃ = rw (h₀, h₁, h₂, h₃)
+
+-- bytes that are an entry, as many as are written for it, are those that are written for it
+none-ahead : (bytes : List ℕ) (e : Stored) → PaddedEntry bytes (e .name) (e .section) (e .offset) (e .size) → length bytes ≡ length (entryBytes true e)
+    → bytes ≡ entryBytes true e
+unfolding entryBytes
+none-ahead bytes e p n =
+    let k₀ : ℕ = p .ahead in
+    let k₁ : ℕ = p .ahead-section in
+    let k₂ : ℕ = p .ahead-offset in
+    let k₃ : ℕ = p .ahead-size in
+    let long : length bytes ≡ k₀ + k₁ + k₂ + k₃ + length (entryBytes true e) =
+    omega (
+      arith,
+      ap length (p .stands),
+      length-five (padded k₀ (length (e .name))) (e .name) (padded k₁ (e .section)) (padded k₂ (e .offset)) (padded k₃ (e .size)),
+      length-padded k₀ (length (e .name)),
+      length-padded k₁ (e .section),
+      length-padded k₂ (e .offset),
+      length-padded k₃ (e .size),
+      length-five (encoded (length (e .name))) (e .name) (encoded (e .section)) (encoded (e .offset)) (encoded (e .size)),
+    ) in
+    p .stands ∙ none-padded k₀ k₁ k₂ k₃ e (omega arith) (omega arith) (omega arith) (omega arith)
 
 module _ (s : List ℕ) (bytes : (i : ℕ) → getD s i 0 < 256) where
   -- the bytes that a number was read from
@@ -59,3 +95,32 @@ module _ (s : List ℕ) (bytes : (i : ℕ) → getD s i 0 < 256) where
         },
         n .2,
       )
+
+  module _ (content at : ℕ) (e : Place) (q : listingAt content s at ≡ Good e) where
+    own-length : length (part s (e .at) (e .next - e .at)) ≡ e .next - e .at
+    own-length =
+        let i = listing-inside content s at e q in
+        let m = i .moves in
+        let k = i .same in
+        let z = i .ends in
+        length-part s (e .at) (e .next - e .at) (omega arith)
+
+    pub unpadded-bytes : (unpadded s e ≡ true) ↔ (part s (e .at) (e .next - e .at) ≡ entryBytes true (storedOf s e))
+    unpadded-bytes =
+        let x : List ℕ = entryBytes true (storedOf s e) in
+        let m : e .at < e .next = omega (arith, listing-inside content s at e q .moves, listing-inside content s at e q .same) in (
+          (λ u.
+              let n : e .next ≡ e .at + length x = eqb-true (e .next) (e .at + length x) u in
+              none-ahead (part s (e .at) (e .next - e .at)) (storedOf s e) (entry-stands content at e q .0) (omega (arith, own-length))),
+          (λ b. eq-eqb (e .next) (e .at + length x) (omega (arith, own-length, ap length b))),
+        )
+
+    -- the entry and what stands behind it
+    pub entry-ahead : unpadded s e ≡ true → drop at s ≡ entryBytes true (storedOf s e) ++ drop (e .next) s
+    entry-ahead u =
+        let i = listing-inside content s at e q in
+        let h : e .at ≡ at = i .same in
+        let m : e .at + (e .next - e .at) ≡ e .next = omega (arith, i .moves) in
+        ap (λ (j : ℕ). drop j s) (sym h)
+        ∙ part-rest s (e .at) (e .next - e .at)
+        ∙ ap₂ (λ (b : List ℕ) (j : ℕ). b ++ drop j s) (unpadded-bytes .0 u) m

@@ -18,6 +18,11 @@ abbrev pub withNumber : {A : Type 0} → Number → A → (ℕ → ℕ → A) �
 withNumber Number.Bad d f = d
 withNumber (Value v next) d f = f v next
 
+-- and so of an entry that is there
+abbrev pub withItem : {A : Type 0} → Item → A → (Place → A) → A
+withItem Item.Bad d f = d
+withItem (Good e) d f = f e
+
 -- an ENCINT of the name's length, 1 to 1,024, with as many bytes behind it: that length, and the name's place
 unfoldable pub nameAt : List ℕ → ℕ → Number
 nameAt s at = withNumber (encintAt s at) Number.Bad (λ n start.

@@ -11,9 +11,9 @@ use lib.Dec.{ltb, leb, eqb}
 use borrow.Author.Tests.{leb-true, ltb-true}
 use Rattle.fields.proofs.Tests.{and-both}
 use Rattle.chunk.specs.Chunk.{spacingOf}
-use Rattle.source.specs.Stored.{Stored, storedOf, allUnpadded, rises}
+use Rattle.entries.specs.Stored.{Stored, storedOf, rises}
 use Rattle.source.specs.Source.{endOf}
-use Rattle.source.specs.Input.{placesOf, given, inputRight}
+use Rattle.source.specs.Input.{placesOf, given, inputRight, allUnpadded}
 use Rattle.source.proofs.All.{All, all-weaken, all-parts}
 use Rattle.source.proofs.Kept.{Kept, given-kept}
 use Rattle.pack.specs.Groups.{fits}

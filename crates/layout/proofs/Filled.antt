@@ -7,7 +7,7 @@ use Prim.Native.Nat.{ℕ, _+_, _*_, _≤_, _<_}
 use native.Mathlib.Omega.{arith}
 use lib.ListN.{length}
 use Rattle.chunk.specs.Chunk.{quickCount, spacingOf}
-use Rattle.source.specs.Stored.{Stored}
+use Rattle.entries.specs.Stored.{Stored}
 use Rattle.source.proofs.All.{All, none, more, all-append}
 use Rattle.pack.specs.Groups.{fits}
 use Rattle.pack.specs.Levels.{entrySize}

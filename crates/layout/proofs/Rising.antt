@@ -9,7 +9,7 @@ use lib.ListN.{length}
 use Rattle.fields.proofs.Tests.{and-both}
 use Rattle.names.specs.Names.{below}
 use Rattle.names.proofs.Laws.{below-trans, below-none}
-use Rattle.source.specs.Stored.{Stored, rises}
+use Rattle.entries.specs.Stored.{Stored, rises}
 use Rattle.source.proofs.All.{All, none, more}
 use Rattle.pack.specs.Levels.{firstName, childrenOf}
 

@@ -7,7 +7,7 @@ use Prim.Native.Nat.{ℕ, suc, _+_, _*_}
 use native.Mathlib.Omega.{arith}
 use lib.ListN.{length, length-append}
 use Rattle.fields.specs.Le.{bytes}
-use Rattle.source.specs.Stored.{Stored}
+use Rattle.entries.specs.Stored.{Stored}
 use Rattle.source.proofs.All.{All, none, more}
 use Rattle.layout.specs.Headers.{fileHeader, sectionZero, directoryHeader}
 use Rattle.layout.specs.Layout.{Layout, chunkCount, chunksOf, chunkList}

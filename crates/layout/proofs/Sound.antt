@@ -7,7 +7,7 @@ use Prim.Native.Nat.{ℕ, zero, suc, _+_, _≤_, _<_}
 use native.Mathlib.Omega.{arith}
 use lib.ListN.{length, length-append}
 use lib.Dec.{leb}
-use Rattle.source.specs.Stored.{Stored, rises}
+use Rattle.entries.specs.Stored.{Stored, rises}
 use Rattle.source.proofs.All.{All, none, more, all-weaken, all-append, all-parts}
 use Rattle.pack.specs.Groups.{fits}
 use Rattle.pack.specs.Levels.{entrySize, level, firstName, childrenOf, levelsAbove}

@@ -7,7 +7,7 @@ use lib.ListN.{length}
 use lib.Dec.{ltb, leb, eqb}
 use Rattle.chunk.specs.Chunk.{spacingOf}
 use Rattle.header.specs.Header.{none}
-use Rattle.source.specs.Stored.{Stored}
+use Rattle.entries.specs.Stored.{Stored}
 use Rattle.source.specs.Input.{given, inputRight}
 use Rattle.pack.specs.Levels.{level, levelsAbove}
 use Rattle.compose.specs.NewChunk.{newChunk}

@@ -7,12 +7,12 @@ use Prim.Native.Nat.{ℕ, zero, suc, _/_, _%_, _<_}
 use native.Mathlib.Omega.{arith}
 use lib.Dec.{ltb}
 use borrow.Author.Tests.{ltb-true}
-use Rattle.entries.specs.Entry.{itemAt}
+use Rattle.entries.specs.Entry.{itemAt, withItem}
 use Rattle.entries.specs.declared.Limits.{Limits}
 use Rattle.entries.specs.declared.Place.{Place}
 use Rattle.entries.specs.declared.Item.{Item}
 use Rattle.entries.specs.declared.Item.the-variants.{Good, Bad}
-use Rattle.chunk.specs.Chunk.{Entry, entryOf, withItem, countOf, spacingOf, entriesIn}
+use Rattle.chunk.specs.Chunk.{Entry, entryOf, countOf, spacingOf, entriesIn}
 use Rattle.seek.specs.Seek.{absent, found, nth, soughtOf, afterAt, groupAt, nthIn}
 use Rattle.seek.specs.declared.Hit.the-variants.{At, Nothing}
 use Rattle.seek.proofs.Good.{nth-good}

@@ -7,13 +7,13 @@ use Prim.Native.Nat.{ℕ, zero, suc, _+_, _-_, _/_, _%_, _≤_, _<_}
 use native.Mathlib.Omega.{arith}
 use lib.ListN.{length}
 use lib.Dec.{ltb}
-use Rattle.entries.specs.Entry.{itemAt, nameOf}
+use Rattle.entries.specs.Entry.{itemAt, nameOf, withItem}
 use Rattle.entries.specs.declared.Limits.{Limits}
 use Rattle.entries.specs.declared.Place.{Place}
 use Rattle.entries.specs.declared.Item.{Item}
 use Rattle.entries.specs.declared.Item.the-variants.{Good, Bad}
 use Rattle.entries.proofs.Laws.{item-inside}
-use Rattle.chunk.specs.Chunk.{Entry, tagOf, withItem, entryOf, headOf, countOf, tailOf, spacingOf, parsed, entriesIn, isKind}
+use Rattle.chunk.specs.Chunk.{Entry, tagOf, entryOf, headOf, countOf, tailOf, spacingOf, parsed, entriesIn, isKind}
 use Rattle.chunk.proofs.Accepted.{accepted, entries-count}
 use Rattle.seek.specs.Seek.{Sought, absent, found, nth, nameIn, final, soughtOf, afterAt, groupAt, nthIn, firstIn, lastIn}
 use Rattle.seek.specs.declared.Hit.{Hit}

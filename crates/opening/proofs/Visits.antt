@@ -6,11 +6,11 @@ use mathlib.Core.List.{List, [], _∷_}
 use Prim.Native.Nat.{ℕ, zero, suc, _-_, _≤_, _<_}
 use native.Mathlib.Omega.{arith}
 use Rattle.fields.specs.Same.{same}
-use Rattle.entries.specs.Entry.{itemAt, nameOf}
+use Rattle.entries.specs.Entry.{itemAt, nameOf, withItem}
 use Rattle.entries.specs.declared.Place.{Place}
 use Rattle.entries.specs.declared.Item.{Item}
 use Rattle.entries.specs.declared.Item.the-variants.{Good, Bad}
-use Rattle.chunk.specs.Chunk.{Parsed, Entry, Entries, all, withItem, entryOf, entriesAt, countOf, tailOf, entriesIn, isKind}
+use Rattle.chunk.specs.Chunk.{Parsed, Entry, Entries, all, entryOf, entriesAt, countOf, tailOf, entriesIn, isKind}
 use Rattle.chunk.proofs.Accepted.{accepted, entries-more, entries-none}
 use Rattle.header.specs.declared.Record.{Record}
 use Rattle.tree.specs.Shape.{Shape, firstName, nextOf, isIndex, listingChunk}

@@ -8,8 +8,8 @@ use lib.ListN.{length}
 use lib.Dec.{eqb}
 use Rattle.names.specs.Names.{below}
 use Rattle.fields.specs.Same.{same}
-use Rattle.entries.specs.Entry.{itemAt, nameOf}
-use Rattle.chunk.specs.Chunk.{Parsed, withItem, faultOf}
+use Rattle.entries.specs.Entry.{itemAt, nameOf, withItem}
+use Rattle.chunk.specs.Chunk.{Parsed, faultOf}
 use Rattle.chunk.specs.Answer.{chunkOf}
 use Rattle.chunk.specs.declared.Chunk.{Chunk}
 use Rattle.chunk.specs.declared.Chunk.the-variants.{Refused, Listing, Index}

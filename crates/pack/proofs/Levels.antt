@@ -17,7 +17,7 @@ use Rattle.encint.specs.declared.Number.the-variants.{Value, Bad}
 use Rattle.entries.specs.Entry.{withNumber, nameAt}
 use Rattle.entries.specs.declared.Place.{Place}
 use Rattle.entries.specs.declared.Item.the-variants.{Good}
-use Rattle.source.specs.Stored.{Stored, storedOf}
+use Rattle.entries.specs.Stored.{Stored, storedOf}
 use Rattle.source.specs.Source.{childAt, itemFrom, endOf, rowsFrom}
 use Rattle.source.specs.Input.{given}
 use Rattle.source.proofs.All.{All, none, more, all-first, all-weaken, all-parts}

@@ -9,7 +9,7 @@ use lib.ListN.{length}
 use Rattle.fields.specs.Part.{part}
 use Rattle.entries.specs.Entry.{withNumber, nameAt}
 use Rattle.entries.specs.declared.Place.{Place}
-use Rattle.source.specs.Stored.{Stored}
+use Rattle.entries.specs.Stored.{Stored}
 use Rattle.source.specs.Source.{rowsFrom}
 use Rattle.pack.specs.Groups.{fits, groups}
 use Rattle.pack.specs.Levels.{firstName}

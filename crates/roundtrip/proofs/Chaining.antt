@@ -15,7 +15,7 @@ use Rattle.tree.specs.Shape as shape
 use Rattle.tree.specs.Shape.{Shape, noChunk, isListing, lastName, listingChunk}
 use Rattle.tree.specs.Chain.{chainFrom, chain, linked, chainOk}
 use Rattle.tree.proofs.Chunks.{is-listing}
-use Rattle.source.specs.Stored.{Stored, rises}
+use Rattle.entries.specs.Stored.{Stored, rises}
 use Rattle.source.proofs.All.{All, more}
 use Rattle.pack.specs.Levels.{firstName}
 use Rattle.layout.specs.Layout.{prevOf, nextOf}

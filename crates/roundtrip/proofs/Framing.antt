@@ -16,7 +16,7 @@ use Rattle.header.specs.Header.{longEnough, lengthRight, headerIn, sectionIn, d
 use Rattle.header.specs.declared.Head.the-variants.{Good}
 use Rattle.header.proofs.Checks.{Rules, head-good}
 use Rattle.book.specs.Book.{chunkBytes}
-use Rattle.source.specs.Stored.{Stored}
+use Rattle.entries.specs.Stored.{Stored}
 use Rattle.source.proofs.All.{All}
 use Rattle.compose.specs.NewChunk.{newChunk}
 use Rattle.layout.specs.Headers.{headLength}

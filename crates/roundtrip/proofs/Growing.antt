@@ -21,7 +21,7 @@ use Rattle.tree.specs.Tree.{leaves, indexChunks, shaped}
 use Rattle.tree.proofs.Lists.{onTest, in-flat, flat-in, flat-append}
 use Rattle.tree.proofs.Chunks.{is-index}
 use Rattle.tree.proofs.Shaped.{childOk}
-use Rattle.source.specs.Stored.{Stored}
+use Rattle.entries.specs.Stored.{Stored}
 use Rattle.source.proofs.All.{All, none, more, all-parts}
 use Rattle.pack.specs.Groups.{fits}
 use Rattle.pack.specs.Levels.{entrySize, firstName, childrenOf, levelsAbove}

@@ -12,7 +12,7 @@ use Rattle.chunk.specs.Chunk.{Parsed}
 use Rattle.tree.specs.Shape.{isListing, isIndex}
 use Rattle.tree.specs.Chain.{chain, chainOk}
 use Rattle.tree.specs.Tree.{treeOk}
-use Rattle.source.specs.Stored.{Stored}
+use Rattle.entries.specs.Stored.{Stored}
 use Rattle.layout.specs.Layout.{Layout, layoutOver, chunkCount, smallEnough}
 use Rattle.layout.proofs.Small.{small-told}
 use Rattle.layout.proofs.Sound.{Ordered}

@@ -15,7 +15,7 @@ use Rattle.header.specs.Header.{headOf}
 use Rattle.header.specs.declared.Record.{Record}
 use Rattle.header.specs.declared.Head.the-variants.{Good}
 use Rattle.book.specs.Book.{limitsOf, directoryOf}
-use Rattle.source.specs.Stored.{Stored}
+use Rattle.entries.specs.Stored.{Stored}
 use Rattle.source.proofs.All.{all-at, All, all-weaken}
 use Rattle.source.proofs.Kept.{Kept}
 use Rattle.compose.proofs.Placed.{Allowed}

@@ -17,7 +17,7 @@ use Rattle.tree.specs.Chain.{chain}
 use Rattle.tree.specs.Tree.{top, leaves, indexChunks, shaped, treeOk}
 use Rattle.tree.proofs.Lists.{onTest}
 use Rattle.tree.proofs.Chunks.{is-listing}
-use Rattle.source.specs.Stored.{Stored}
+use Rattle.entries.specs.Stored.{Stored}
 use Rattle.layout.specs.Layout.{Layout, depthOf, chunkCount, rootOf}
 use Rattle.roundtrip.proofs.Meaning.{shapeFor}
 use Rattle.roundtrip.proofs.Numbers.{numbers, all-members}

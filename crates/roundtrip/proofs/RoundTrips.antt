@@ -23,7 +23,7 @@ use Rattle.opening.specs.declared.Opened.{Opened}
 use Rattle.opening.specs.declared.Opened.the-variants.{Book}
 use Rattle.listing.specs.Listing.{reportsIn}
 use Rattle.listing.specs.Whole.{wholeListing}
-use Rattle.source.specs.Stored.{Stored}
+use Rattle.entries.specs.Stored.{Stored}
 use Rattle.source.proofs.All.{all-at, All, none, more}
 use Rattle.source.proofs.Kept.{Kept}
 use Rattle.pack.specs.Levels.{entrySize}

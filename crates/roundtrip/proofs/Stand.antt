@@ -11,7 +11,7 @@ use Rattle.encint.specs.Encint.{encoded}
 use Rattle.names.specs.Names.{below}
 use Rattle.chunk.specs.Chunk.{Entry, Parsed}
 use Rattle.seek.specs.Seek.{Sought, absent, found, nth, nameIn, final}
-use Rattle.source.specs.Stored.{Stored, rises}
+use Rattle.entries.specs.Stored.{Stored, rises}
 use Rattle.pack.specs.Levels.{entrySize, firstName}
 use Rattle.compose.proofs.Placed.{placedFrom, newParsed}
 use Rattle.layout.specs.Layout.{prevOf, nextOf}

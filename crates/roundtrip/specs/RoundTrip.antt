@@ -10,7 +10,7 @@ use Rattle.book.specs.declared.Report.{Report}
 use Rattle.opening.specs.Opened.{opened}
 use Rattle.opening.specs.declared.Opened.the-variants.{Book}
 use Rattle.listing.specs.Whole.{wholeListing}
-use Rattle.source.specs.Stored.{Stored}
+use Rattle.entries.specs.Stored.{Stored}
 use Rattle.layout.specs.Headers.{headLength}
 use Rattle.layout.specs.Layout.{Layout, chunkCount, depthOf, rootOf, headBytes}
 

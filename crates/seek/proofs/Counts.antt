@@ -15,13 +15,13 @@ use Rattle.names.specs.declared.Order.{Order}
 use Rattle.names.specs.declared.Order.the-variants.{Less, Equal, Greater}
 use Rattle.encint.specs.declared.Number.{Number}
 use Rattle.encint.specs.declared.Number.the-variants.{Value}
-use Rattle.entries.specs.Entry.{withNumber, itemAt, nameOf}
+use Rattle.entries.specs.Entry.{withNumber, itemAt, nameOf, withItem}
 use Rattle.entries.specs.declared.Limits.{Limits}
 use Rattle.entries.specs.declared.Place.{Place}
 use Rattle.entries.specs.declared.Item.{Item}
 use Rattle.entries.specs.declared.Item.the-variants.{Good, Bad}
 use Rattle.entries.proofs.Laws.{item-inside}
-use Rattle.chunk.specs.Chunk.{Entry, all, entryOf, withItem, entriesAt, countOf, tailOf, spacingOf, quickCount, parsed, entriesIn, isKind}
+use Rattle.chunk.specs.Chunk.{Entry, all, entryOf, entriesAt, countOf, tailOf, spacingOf, quickCount, parsed, entriesIn, isKind}
 use Rattle.chunk.proofs.Accepted.{accepted, entries-more}
 use Rattle.seek.specs.Seek.{Stand, byOrder, groupAt, groupAbove, lastGroup, groupIn, sizeIn}
 use Rattle.seek.specs.Count.{passed, aboveIn, groupOf, comparisons, comparedAt, walked, halvingsIn, costIn}

@@ -13,13 +13,13 @@ use Rattle.fields.proofs.Le.{le-past}
 use Rattle.fields.specs.Part.{part}
 use Rattle.encint.specs.declared.Number.{Number}
 use Rattle.encint.specs.declared.Number.the-variants.{Value}
-use Rattle.entries.specs.Entry.{nameAt, indexAt, itemAt, nameOf}
+use Rattle.entries.specs.Entry.{nameAt, indexAt, itemAt, nameOf, withItem}
 use Rattle.entries.specs.declared.Limits.{Limits}
 use Rattle.entries.specs.declared.Place.{Place}
 use Rattle.entries.specs.declared.Item.{Item}
 use Rattle.entries.specs.declared.Item.the-variants.{Good, Bad}
 use Rattle.entries.proofs.Laws.{item-inside, item-named, item-unnamed}
-use Rattle.chunk.specs.Chunk.{withItem, countOf}
+use Rattle.chunk.specs.Chunk.{countOf}
 use Rattle.seek.specs.Seek.{Stand, byOrder, findAt, chooseAt, childOf, afterAt}
 use Rattle.seek.specs.Count.{comparedAt, walked}
 use Rattle.seek.specs.declared.CountedHit.{CountedHit}

@@ -10,9 +10,9 @@ use Rattle.fields.specs.Part.{part}
 use Rattle.names.specs.Order.{isLess}
 use Rattle.encint.specs.declared.Number.{Number}
 use Rattle.encint.specs.declared.Number.the-variants.{Value, Bad}
-use Rattle.entries.specs.Entry.{withNumber, nameAt, itemAt}
+use Rattle.entries.specs.Entry.{withNumber, nameAt, itemAt, withItem}
 use Rattle.entries.specs.declared.Limits.{Limits}
-use Rattle.chunk.specs.Chunk.{Entry, withItem, quickCount}
+use Rattle.chunk.specs.Chunk.{Entry, quickCount}
 use Rattle.seek.specs.Seek.{Stand, byOrder, nth, nameIn, middle, halved, groupAt, groupAbove, lastGroup, groupIn, sizeIn}
 
 -- groups lo to hi are left: how many first names are compared until one group is (Q9), i at most. The recursion is that of `halved`

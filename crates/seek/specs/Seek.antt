@@ -10,9 +10,9 @@ use Rattle.names.specs.Order.{isLess}
 use Rattle.names.specs.Names.{below, matches}
 use Rattle.names.specs.declared.Order.{Order}
 use Rattle.names.specs.declared.Order.the-variants.{Less, Equal, Greater}
-use Rattle.entries.specs.Entry.{withNumber, nameAt, itemAt, nameOf}
+use Rattle.entries.specs.Entry.{withNumber, nameAt, itemAt, nameOf, withItem}
 use Rattle.entries.specs.declared.Limits.{Limits}
-use Rattle.chunk.specs.Chunk.{Entry, entryOf, withItem, headOf, countOf, spacingOf, quickCount, quickWord}
+use Rattle.chunk.specs.Chunk.{Entry, entryOf, headOf, countOf, spacingOf, quickCount, quickWord}
 use Rattle.seek.specs.declared.Child.{Child}
 use Rattle.seek.specs.declared.Child.the-variants.{Below, Nowhere}
 use Rattle.seek.specs.declared.Hit.{Hit}

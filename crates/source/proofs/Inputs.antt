@@ -14,9 +14,9 @@ use Rattle.names.specs.Names.{below}
 use Rattle.entries.specs.Entry.{listingAt, nameOf}
 use Rattle.entries.specs.declared.Place.{Place}
 use Rattle.entries.specs.declared.Item.the-variants.{Good}
-use Rattle.source.specs.Stored.{storedOf, unpadded, allUnpadded, rises}
+use Rattle.entries.specs.Stored.{storedOf, unpadded, rises}
 use Rattle.source.specs.Source.{run, endOf}
-use Rattle.source.specs.Input.{given, inputRight}
+use Rattle.source.specs.Input.{given, inputRight, allUnpadded}
 use Rattle.source.proofs.Rows.{run-more}
 
 -- the entries that are left end where the input does, none is padded, and their names rise

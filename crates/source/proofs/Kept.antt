@@ -11,7 +11,7 @@ use Rattle.fields.proofs.Parts.{length-part}
 use Rattle.entries.specs.Entry.{listingAt}
 use Rattle.entries.specs.declared.Place.{Place}
 use Rattle.entries.specs.declared.Item.the-variants.{Good}
-use Rattle.source.specs.Stored.{Stored, storedOf}
+use Rattle.entries.specs.Stored.{Stored, storedOf}
 use Rattle.source.specs.Input.{given}
 use Rattle.source.proofs.All.{All, all-map}
 use Rattle.source.proofs.Rows.{given-row, run-all}

@@ -6,11 +6,10 @@ use mathlib.Core.Bool.{Bool, true, false, cond}
 use mathlib.Core.List.{List, [], _∷_}
 use lib.ListN.{length, getD}
 use lib.Dec.{ltb}
-use Rattle.entries.specs.Entry.{withNumber, nameAt, listingAt}
+use Rattle.entries.specs.Entry.{withNumber, nameAt, listingAt, withItem}
 use Rattle.entries.specs.declared.Place.{Place}
 use Rattle.entries.specs.declared.Item.{Item}
 use Rattle.entries.specs.declared.Item.the-variants.{Good}
-use Rattle.chunk.specs.Chunk.{withItem}
 
 -- the entry for chunk c, whose first name has its entry in the input s at place c of `starts`
 unfoldable pub childAt : List ℕ → List ℕ → ℕ → Item

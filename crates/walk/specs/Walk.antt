@@ -6,9 +6,9 @@ use mathlib.Core.List.{List}
 use lib.ListN.{length}
 use lib.Dec.{ltb, eqb}
 use Rattle.fields.specs.Part.{partOf}
-use Rattle.entries.specs.Entry.{itemAt}
+use Rattle.entries.specs.Entry.{itemAt, withItem}
 use Rattle.entries.specs.declared.Place.{Place}
-use Rattle.chunk.specs.Chunk.{Parsed, withItem, entriesIn}
+use Rattle.chunk.specs.Chunk.{Parsed, entriesIn}
 use Rattle.header.specs.declared.Record.{Record}
 use Rattle.tree.specs.Shape.{noChunk, nextOf, listingChunk}
 use Rattle.book.specs.Book.{limitsOf, chunkBytes, directoryOf, shapeOf, bookFits, refusalOf}

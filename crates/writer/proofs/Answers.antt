@@ -12,7 +12,7 @@ use borrow.Author.Tests.{le-leb, lt-leb, leb-true}
 use Rattle.fields.proofs.Put.{sets-parts}
 use Rattle.fields.proofs.Tests.{and-both, and-no}
 use Rattle.chunk.specs.Chunk.{spacingOf}
-use Rattle.source.specs.Stored.{Stored, storedOf}
+use Rattle.entries.specs.Stored.{Stored, storedOf}
 use Rattle.source.specs.Input.{given, inputRight}
 use Rattle.source.proofs.Unpadded.{input-bytes}
 use Rattle.pack.specs.Levels.{level}

@@ -10,7 +10,7 @@ use lib.ListN.{length, take, length-append}
 use lib.Seq.{sets}
 use Rattle.fields.specs.Part.{part}
 use Rattle.fields.proofs.Put.{sets-after}
-use Rattle.source.specs.Stored.{Stored, storedOf}
+use Rattle.entries.specs.Stored.{Stored, storedOf}
 use Rattle.pack.specs.Groups.{fits}
 use Rattle.pack.specs.Levels.{entrySize, level, childrenOf, levelsAbove}
 use Rattle.pack.specs.Starts.{chunksFrom, Starts, AllStarts}

@@ -10,7 +10,7 @@ use lib.ListN.{length, length-map}
 use Rattle.fields.specs.Part.{part}
 use Rattle.fields.proofs.Parts.{length-part}
 use Rattle.entries.specs.declared.Place.{Place}
-use Rattle.source.specs.Stored.{Stored, storedOf}
+use Rattle.entries.specs.Stored.{Stored, storedOf}
 use Rattle.source.specs.Source.{rowsFrom}
 use Rattle.source.proofs.All.{All, none, more}
 use Rattle.source.proofs.Rows.{Row, rows-all}

@@ -11,7 +11,7 @@ use lib.Seq.{sets}
 use Rattle.fields.proofs.Put.{sets-after}
 use Rattle.entries.specs.declared.Place.{Place}
 use Rattle.entries.specs.declared.Item.the-variants.{Good}
-use Rattle.source.specs.Stored.{storedOf}
+use Rattle.entries.specs.Stored.{storedOf}
 use Rattle.source.specs.Source.{itemFrom, rowsFrom}
 use Rattle.pack.specs.Fill.{extentFrom}
 use Rattle.pack.specs.Starts.{chunksFrom}

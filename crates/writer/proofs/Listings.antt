@@ -18,7 +18,7 @@ use Rattle.entries.specs.Entry.{listingAt, nameOf}
 use Rattle.entries.specs.declared.Place.{Place}
 use Rattle.entries.specs.declared.Item.the-variants.{Good}
 use Rattle.chunk.specs.Chunk.{headOf, quickCount}
-use Rattle.source.specs.Stored.{storedOf, entryBytes, unpadded}
+use Rattle.entries.specs.Stored.{storedOf, entryBytes, unpadded}
 use Rattle.source.specs.Source.{itemFrom, rowsFrom}
 use Rattle.source.specs.Input.{inputRight}
 use Rattle.source.proofs.Rows.{given-row, run-more}

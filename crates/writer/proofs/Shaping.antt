@@ -9,7 +9,7 @@ use native.Mathlib.Omega.{arith}
 use lib.ListN.{length, take, length-append, length-map}
 use lib.Seq.{take-add, take-take, length-take-le}
 use Rattle.fields.specs.Part.{part}
-use Rattle.source.specs.Stored.{Stored, storedOf}
+use Rattle.entries.specs.Stored.{Stored, storedOf}
 use Rattle.pack.specs.Levels.{level, childrenOf, levelsAbove}
 use Rattle.pack.specs.Starts.{chunksFrom, firstAt, Starts, AllStarts}
 use Rattle.pack.proofs.Levels.{chunks-children, starts-of}

@@ -7,7 +7,7 @@ use mathlib.Core.List.{List, _++_, flatMap}
 use lib.ListN.{length, take, drop}
 use lib.Dec.{leb}
 use Rattle.header.specs.Header.{none}
-use Rattle.source.specs.Stored.{entryBytes}
+use Rattle.entries.specs.Stored.{entryBytes}
 use Rattle.source.specs.Input.{given}
 use Rattle.layout.specs.Headers.{headLength}
 use Rattle.layout.specs.Layout.{takes, layoutFor, chunkCount, smallEnough}

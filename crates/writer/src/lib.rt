@@ -8,7 +8,7 @@ ghost use Rattle.fields.specs.Part.{part};
 ghost use Rattle.names.specs.Names.{below};
 ghost use Rattle.entries.specs.Entry.{listingAt};
 ghost use Rattle.chunk.specs.Chunk.{spacingOf};
-ghost use Rattle.source.specs.Stored.{storedOf};
+ghost use Rattle.entries.specs.Stored.{storedOf};
 ghost use Rattle.source.specs.Source.{takenOf, rowsFrom};
 ghost use Rattle.source.specs.Input.{given};
 ghost use Rattle.pack.specs.Fill.{extentFrom};

@@ -1,6 +1,6 @@
 use borrow.Author.Needs.{needs}
 use mathlib.Core.Path.{sym, ap, _∙_}
-use Rattle.chunk.specs.Chunk.{withItem}
+use Rattle.entries.specs.Entry.{withItem}
 use Rattle.seek.specs.declared.Child.the-variants.{Below}
 use Rattle.seek.proofs.child_at.Statement.{statement}
 use Rattle.seek.proofs.child_at.Tie as tie

@@ -11,10 +11,9 @@ use Rattle.fields.proofs.Le.{le-lt}
 use Rattle.names.specs.Names.{compared}
 use Rattle.encint.specs.Encint.{encintAt}
 use Rattle.encint.specs.declared.Number.the-variants.{Value}
-use Rattle.entries.specs.Entry.{nameAt, indexAt, itemAt}
+use Rattle.entries.specs.Entry.{nameAt, indexAt, itemAt, withItem}
 use Rattle.entries.specs.declared.Item.the-variants.{Good}
 use Rattle.entries.proofs.Laws.{name-next, index-broken, index-wide, index-whole}
-use Rattle.chunk.specs.Chunk.{withItem}
 use Rattle.seek.specs.Seek.{groupAt, groupIn, sizeIn, chooseIn, childOf}
 use Rattle.seek.specs.Count.{halvingsIn, costIn}
 use Rattle.seek.specs.declared.CountedHit.{CountedHit}
