@@ -567,11 +567,11 @@ def reached(crates, roots):
 
 def named(crates, text):
     """The definitions that a piece of a document names, and the files of which it names no definition: `crate/proofs/File`, and behind it `File` or `name` of that
-    crate; `crate.name`; a name alone where it is one of the library's only."""
+    crate; `crate.name`; a public name alone."""
     definitions, files, crate, folder = set(), {}, None, None
     by_crate = collections.defaultdict(list)
     for d in crates.definitions:
-        if not d.file.function:
+        if d.public and not d.file.function:
             by_crate[d.file.crate, d.name].append(d)
             by_crate[None, d.name].append(d)
     for word in re.findall(r'`([^`\s]+)`', text):
