@@ -68,6 +68,7 @@ class Definition:
         self.file, self.name, self.kind, self.public, self.first, self.last, self.comment, self.modules = file, name, kind, public, first, first, comment, modules
         self.members = []
         self.cited = set()        # (name, what it is qualified by or None)
+        self.stated = set()       # the same of what it says alone: its signature, or all of a record or data type
 
     def __repr__(self):
         return '%s.%s' % (self.file.crate, self.name)
@@ -212,9 +213,17 @@ class File:
                         inside |= {t.text for t in piece[:colon]}
                     else:
                         scan(piece[colon + 1:], inside | {d.name}, d.cited, set())
+            d.stated = d.cited
         else:
             block(rows, d.first, around, d.cited, d.name)
+            block(rows[:signature_end(rows)], d.first, around, d.stated, d.name)
         d.cited.discard((d.name, None))
+
+
+def signature_end(rows):
+    """How many of a definition's lines are its signature."""
+    indent = len(rows[0]) - len(rows[0].lstrip())
+    return next((i for i, row in enumerate(rows) if i and row.strip() and len(row) - len(row.lstrip()) <= indent), len(rows))
 
 
 def import_of(text, first, last, public, ghost, indent):
@@ -552,22 +561,25 @@ def operators(file, word):
     return found
 
 
+def said(crates, d, what=None):
+    """The definitions that one cites, with the modules around it; of `d.stated` where only what it states counts."""
+    return crates.cited_by(d.file, set(d.cited if what is None else what).union(*(m.cited for m in d.modules)))
+
+
 def reached(crates, roots):
     """The definitions that these reach, themselves among them."""
     seen, todo = set(roots), list(roots)
     while todo:
-        d = todo.pop()
-        cited = set(d.cited).union(*(m.cited for m in d.modules))
-        for other in crates.cited_by(d.file, cited):
+        for other in said(crates, todo.pop()):
             if other not in seen:
                 seen.add(other)
                 todo.append(other)
     return seen
 
 
-def named(crates, text):
+def named(crates, text, strict=False):
     """The definitions that a piece of a document names, and the files of which it names no definition: `crate/proofs/File`, and behind it `File` or `name` of that
-    crate; `crate.name`; a public name alone."""
+    crate; `crate.name`; a public name alone, unless `strict`."""
     definitions, files, crate, folder = set(), {}, None, None
     by_crate = collections.defaultdict(list)
     for d in crates.definitions:
@@ -591,7 +603,7 @@ def named(crates, text):
         elif re.fullmatch(r'(specs|proofs)/(\w+)', word):
             pass
         else:
-            found = [d for d in by_crate.get((crate, word), []) if d.file in files] or by_crate.get((crate, word)) or by_crate.get((None, word), [])
+            found = [d for d in by_crate.get((crate, word), []) if d.file in files] or by_crate.get((crate, word)) or ([] if strict else by_crate.get((None, word), []))
             definitions.update(found)
             for d in found:
                 files.setdefault(d.file, True)
@@ -610,7 +622,7 @@ def theorems(crates):
     table = re.search(r'^## The theorems\n(.*?)(?=^## )', text, re.M | re.S)[1]
     found = set()
     for piece in pieces(table):
-        definitions, files = named(crates, piece)
+        definitions, files = named(crates, piece, True)
         found |= definitions
         for f in files:
             if isinstance(f, File):
