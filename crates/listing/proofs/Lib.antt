@@ -7,3 +7,4 @@ pub mod Run
 pub mod Listed
 pub mod Paged
 pub mod Refusals
+pub mod Contents

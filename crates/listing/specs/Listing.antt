@@ -6,6 +6,7 @@ use mathlib.Core.List.{List, [], _∷_, map, flatMap}
 use lib.ListN.{length}
 use lib.Seq.{sets}
 use lib.Dec.{ltb, leb, eqb}
+use Rattle.fields.specs.Part.{partOf}
 use Rattle.chunk.specs.Chunk.{Parsed, entriesIn}
 use Rattle.seek.specs.Seek.{Sought, absent, found, nth}
 use Rattle.header.specs.declared.Record.{Record}
@@ -115,3 +116,9 @@ module _ (s : List ℕ) (book : Record) (c : ℕ) where
   -- the slice t with the entries' numbers from place 0 on; t itself where they are refused (RO8) or have no room
   unfoldable pub pageIn : List ℕ → List ℕ
   pageIn t = cond (canList s book c && hasRoom (length t)) (sets t 0 (numbersOf (reportsIn s book c))) t
+
+-- ---- what is stored under an entry
+
+-- the bytes of an entry of section 0 start at content start + offset (E8); none for another section, and where they do not lie inside the file (K15)
+unfoldable pub contentPart : List ℕ → Record → Report → List ℕ
+contentPart s book x = cond (eqb (x .section) 0) (partOf s (book .content + x .offset) (x .size)) []

@@ -8,7 +8,7 @@ ghost use Rattle.fields.specs.Part.{partOf};
 ghost use Rattle.chunk.specs.Chunk.{countOf};
 ghost use Rattle.tree.specs.Shape.{isListing, nextOf};
 ghost use Rattle.book.specs.Book.{chunkBytes, directoryOf};
-ghost use Rattle.listing.specs.Listing.{startOf, entryStep, stepped, ownedAt, OwnBeside, fiveOf, numbersOf, reportsIn, pageOf, pageIn};
+ghost use Rattle.listing.specs.Listing.{startOf, entryStep, stepped, ownedAt, OwnBeside, fiveOf, numbersOf, reportsIn, pageOf, pageIn, contentPart};
 use book::Own;
 use book::Refusal;
 use book::Report;
@@ -175,4 +175,23 @@ pub fn part(file: &[u8], place: u64, length: u64) -> &[u8]
     ensures { λ r. ⌜ now r ≡ partOf (now (file .entry)) place length ⌝ }
 {
     fields::part(file, place as usize, length as usize)
+}
+
+// What is stored under an entry of section 0, of the lent file itself; the empty part for another section, and where it does not lie inside the file. No sum is
+// made before it is known to stay inside.
+pub fn content_part(file: &[u8], book: Record, x: Report) -> &[u8]
+    ensures { λ r. ⌜ now r ≡ contentPart (now (file .entry)) book x ⌝ }
+{
+    let start = book.content as usize;
+    let offset = x.offset as usize;
+    if x.section != 0 {
+        return &file[0..0];
+    }
+    if file.len() < start {
+        return &file[0..0];
+    }
+    if file.len() - start < offset {
+        return &file[0..0];
+    }
+    fields::part(file, start + offset, x.size as usize)
 }
