@@ -1,48 +1,16 @@
-"""The library behind tests/driver.c: questions to it, the model's answers as it tells its own, and that it gives these.
+"""The library behind tests/driver.c, held to the second implementation: both are asked the same.
 
-  built(folder)                                 the driver, in this folder
-  ask(driver, what, data, asked)                asks of these bytes; the test ends where an answer is not the one that is wanted
-  line(..)                                      numbers and lists of numbers, as the driver tells them
-  code(refusal)                                 a refusal as a number
-  question(record, name, places)                the question for a lookup
-  lookup_line(got, count, places)               what a lookup tells, by the model's answer and its count of comparisons
-  lookup_question(data, record, name, places)   a lookup, and what it tells by the model
+  built(folder)                        the driver, in this folder
+  ask(driver, what, data, questions)   asks of these bytes; the test ends where an answer of the library is not the one that is wanted. The answers
 """
 import pathlib
 import subprocess
 
 from archive import archive
-from books import RECORD, comparisons, lookup
+from second import answer, answers, line
 
 LOOKUP = 7                      # numbers that a lookup answers
-
-
-def line(*numbers):
-    return ' '.join(str(n) for group in numbers for n in (group if isinstance(group, (list, tuple)) else [group]))
-
-
-def code(answer):
-    return answer[1] + 256 * answer[2]
-
-
-def question(record, name, places=5):
-    return 'l %s %s' % (line([record[k] for k in RECORD], places), name.hex() or '-')
-
-
-def lookup_line(got, count=None, places=5):
-    """Of a refusal every place is as it was, of absent the five numbers of an entry."""
-    if got[0] == 'refused':
-        return line(code(got), [88] * LOOKUP, [77] * places)
-    trail = got[-1] + [77] * (places - len(got[-1]))
-    if got[0] == 'found':
-        return line(0, len(got[-1]), got[1], count, trail)
-    return line(255, len(got[-1]), [88] * 5, count, trail)
-
-
-def lookup_question(data, record, name, places=5):
-    got = lookup(data, record, name, places)
-    count = None if got[0] == 'refused' else comparisons(data, record, name, got[-1])
-    return question(record, name, places), lookup_line(got, count, places)
+ABSENT = '255 88 88 88 88 88'   # of a search without a trail
 
 
 def built(folder):
@@ -52,14 +20,28 @@ def built(folder):
     return driver
 
 
-def ask(driver, what, data, asked):
-    """Asks (question, answer), where an answer is a line, or a test of one. The lines that came."""
+def told(driver, what, data, questions):
+    """The library's answers."""
     book = driver.parent / 'book'
     book.write_bytes(data)
-    out = subprocess.run([str(driver), str(book)], input=''.join(q + '\n' for q, _ in asked), capture_output=True, text=True, check=True).stdout.splitlines()
-    if len(out) != len(asked):
-        raise SystemExit('%s: %d answers to %d questions' % (what, len(out), len(asked)))
-    for (asked_for, want), got in zip(asked, out):
-        if not want(got) if callable(want) else got != want:
-            raise SystemExit('%s, %s: %s, not %s' % (what, asked_for[:200], got[:4000], 'what K24 allows' if callable(want) else want[:4000]))
+    out = subprocess.run([str(driver), str(book)], input=''.join(q + '\n' for q in questions), capture_output=True, text=True, check=True).stdout.splitlines()
+    if len(out) != len(questions):
+        raise SystemExit('%s: %d answers to %d questions' % (what, len(out), len(questions)))
     return out
+
+
+def right(data, question, got, want):
+    """Whether an answer is the wanted one; one by K24 is absent, or found where the asked name stands."""
+    if want != 'K24':
+        return got == want
+    code, place, size = got.split()[:3]
+    return got == ABSENT or code == '0' and answer(data, line('A', place, size, question.split()[-1])) == '1'
+
+
+def ask(driver, what, data, questions, wanted=None):
+    """Other answers may be wanted than those that the second implementation gives for these bytes."""
+    wanted = wanted or answers(data, questions)
+    for question, got, want in zip(questions, told(driver, what, data, questions), wanted):
+        if not right(data, question, got, want):
+            raise SystemExit('%s, %s: %s, not %s' % (what, question[:200], got[:4000], want[:4000]))
+    return wanted

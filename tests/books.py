@@ -1,33 +1,20 @@
-"""A model of a whole book, independent of the library.
+"""The bytes of whole books, good or damaged. Nothing here judges: what such bytes are says second.py.
 
-It follows docs/FORMAT.md with plain lists and unbounded numbers, and shares no
-code with the library. One chunk by itself is judged by chunks.py.
+  Builder        the bytes of a book, and what was put into it
+  fields         the values that stand in a header
+  chunk_place    where a chunk stands
+  lined_up       names as a batch takes them
+  random_book    a builder with random options
 
-  Builder, build_book            the bytes of a book, good or damaged
-  opened                         the record of a book, or why it is refused
-  step, walk, listing            the entries, by the cursor
-  owned                          the entries with their own bytes, by the chain
-  descend, lookup, comparisons   the descent for a name
-  batch                          many names at once
-  lent                           a part of the book
-  frames                         what the program `list` prints
-  random_book                    a builder with random options
-
-A record is a dict with the keys of RECORD. A report is (place of the name in
-the file, length of the name, section, offset, length). A refusal is
-('refused', number, place).
+A record is a dict with the keys of RECORD.
 """
 
-from functools import lru_cache
 from zlib import crc32
 
-from chunks import (CHUNK, HEADER, INDEX, LISTING, NONE, build_index, build_listing, choose,
-                    compare, compared, decode, find, fold, index_entry, listing_entry, nth, padded,
-                    quick_count, verdict)
+from chunks import CHUNK, HEADER, INDEX, LISTING, NONE, build_index, build_listing, index_entry, listing_entry, padded, quick_count
 
 RECORD = ('version', 'time', 'language', 'directory_start', 'count', 'density', 'depth',
           'root', 'first', 'last', 'content_start')
-MOST = 60000                    # bytes that the program takes
 
 GUID_1 = bytes.fromhex('10fd017caa7bd0119e0c00a0c922e6ec')
 GUID_2 = bytes.fromhex('11fd017caa7bd0119e0c00a0c922e6ec')
@@ -48,12 +35,6 @@ AS_BYTES = {'tag', 'guid_1', 'guid_2', 's_words', 's_rest', 'd_tag', 'd_guid', '
 UNCHECKED = ('word', 'time', 'language', 's_words', 's_rest', 'd_word', 'd_word_28', 'd_language', 'd_rest')
 
 
-def refused(number, place=NONE):
-    return 'refused', number, place
-
-
-# Opening
-
 def fields(data, table, base):
     """The values of a table's fields, its header standing at a place."""
     out = {}
@@ -63,295 +44,14 @@ def fields(data, table, base):
     return out
 
 
-def head(data):
-    """The record by the two headers, or the number of a refusal from 1 to 7."""
-    size = len(data)
-    if size < 96:
-        return 1
-    f = fields(data, FILE, 0)
-    if f['tag'] != b'ITSF' or f['guid_1'] != GUID_1 or f['guid_2'] != GUID_2:
-        return 2
-    version = f['version']
-    if version not in (2, 3) or f['header_length'] != HEADER_LENGTH[version]:
-        return 3
-    section0, directory = f['section0_start'], f['directory_start']
-    section0_end = section0 + f['section0_length']
-    directory_end = directory + f['directory_length']
-    content = f['content_start'] if version == 3 else directory_end
-    if f['section0_length'] != 24 or f['directory_length'] < 84:
-        return 4
-    if section0_end > size or directory_end > size:
-        return 4
-    if section0 < f['header_length'] or directory < f['header_length']:
-        return 4
-    if section0 < directory_end and directory < section0_end:
-        return 4
-    if content < section0_end or content < directory_end or content > size:
-        return 4
-    if fields(data, SECTION0, section0)['file_length'] != size:
-        return 5
-    d = fields(data, DIRECTORY, directory)
-    if (d['d_tag'] != b'ITSP' or d['d_version'] != 1 or d['d_length'] != 0x54
-            or d['d_guid'] != GUID_D or d['d_length_2'] != 0x54):
-        return 6
-    count, depth, root = d['count'], d['depth'], d['root']
-    if d['chunk_size'] != CHUNK or d['density'] > 7 or not 1 <= depth <= 5 or not 1 <= count <= 4096:
-        return 7
-    if f['directory_length'] != 84 + CHUNK * count or d['first'] >= count or d['last'] >= count:
-        return 7
-    if (depth == 1) != (count == 1):
-        return 7
-    if root not in (0, NONE) if depth == 1 else root >= count:
-        return 7
-    return dict(zip(RECORD, (version, f['time'], f['language'], directory, count, d['density'], depth,
-                             root, d['first'], d['last'], content)))
-
-
-judged = lru_cache(maxsize=512)(verdict)
-
-
 def chunk_place(record, number):
     return record['directory_start'] + 84 + CHUNK * number
-
-
-def chunk_at(data, record, number):
-    """The verdict on a chunk by the record's numbers."""
-    at = chunk_place(record, number)
-    return judged(bytes(data[at:at + CHUNK]), record['density'], record['count'],
-                  len(data) - record['content_start'])
-
-
-def chain(parts, first, last):
-    """The numbers of the chain's chunks in order, or None where a rule of the
-    chain fails. `parts` has the verdict on each chunk. The walk ends: a chunk
-    met twice would have two different chunks in front of it."""
-    met, before, number = [], NONE, first
-    while number != NONE:
-        if number >= len(parts) or parts[number][0] != 'listing':
-            return None
-        _, previous, following, entries = parts[number]
-        if previous != before:
-            return None
-        if met and compare(parts[before][3][-1][2], entries[0][2]) >= 0:
-            return None
-        met.append(number)
-        before, number = number, following
-    if before != last or len(met) != sum(p[0] == 'listing' for p in parts):
-        return None
-    return met
-
-
-def leaves(parts, number, level, met):
-    """The listing chunks under a chunk from left to right, with a None where
-    T2 to T4 fail. Index chunks are added to `met`."""
-    if parts[number][0] != ('listing' if level == 1 else 'index'):
-        yield None
-    elif level == 1:
-        yield number
-    else:
-        met.add(number)
-        for _, _, name, child, _ in parts[number][1]:
-            first_of_child = parts[child][-1][0]
-            if first_of_child[2] != name:
-                yield None
-            yield from leaves(parts, child, level - 1, met)
-
-
-def tree_holds(parts, record, order):
-    """The rules of the tree, for the chain's chunks in order."""
-    indexes = {i for i, p in enumerate(parts) if p[0] == 'index'}
-    if record['depth'] == 1:
-        return not indexes
-    met, left = set(), list(reversed(order))
-    for leaf in leaves(parts, record['root'], record['depth'], met):
-        if not left or leaf != left.pop():
-            return False
-    return not left and met == indexes
-
-
-def opened(data):
-    """('book', record), or the refusal."""
-    data = bytes(data)
-    record = head(data)
-    if not isinstance(record, dict):
-        return refused(record)
-    parts = []
-    for number in range(record['count']):
-        part = chunk_at(data, record, number)
-        if part[0] == 'refused':
-            return refused(part[1], number)
-        parts.append(part)
-    order = chain(parts, record['first'], record['last'])
-    if order is None:
-        return refused(13)
-    if not tree_holds(parts, record, order):
-        return refused(14)
-    return 'book', record
-
-
-# Asking: any bytes with any record
-
-def fits(data, record):
-    return (record['density'] <= 7 and 1 <= record['depth'] <= 5 and 1 <= record['count'] <= 4096
-            and record['content_start'] <= len(data))
-
-
-def meet(data, record, number, kind):
-    """The verdict on a chunk that is met, or None if it is to be refused."""
-    if number >= record['count'] or chunk_place(record, number) + CHUNK > len(data):
-        return None
-    part = chunk_at(data, record, number)
-    return part if part[0] == kind else None
-
-
-def report(record, number, entry):
-    _, name_at, name, section, offset, length, _ = entry
-    return chunk_place(record, number) + name_at, len(name), section, offset, length
-
-
-def start(record):
-    """The cursor at the beginning."""
-    return record['first'], 0
-
-
-def step(data, record, cursor):
-    """('entry', report, cursor), ('end', cursor), or the refusal."""
-    number, i = cursor
-    if not fits(data, record):
-        return refused(17)
-    if number == NONE:
-        return 'end', cursor
-    part = meet(data, record, number, 'listing')
-    if part is None or i >= len(part[3]):
-        return refused(17)
-    behind = (number, i + 1) if i + 1 < len(part[3]) else (part[2], 0)
-    return 'entry', report(record, number, nth(part[3], i)), behind
-
-
-def walk(data, record, most, cursor=None):
-    """The reports of at most so many steps, and how they end: 'end',
-    'refused', or 'more' where the steps did not suffice."""
-    data, cursor, out = bytes(data), cursor or start(record), []
-    for _ in range(most):
-        got = step(data, record, cursor)
-        if got[0] != 'entry':
-            return out, got[0]
-        out.append(got[1])
-        cursor = got[2]
-    return out, 'more'
-
-
-def listing(data, record):
-    """All reports of a book. For a record that no book gave see `walk`: its
-    steps may be refused, or go on for ever."""
-    out, ending = walk(data, record, len(data))
-    if ending != 'end':
-        raise ValueError('the listing is ' + ending)
-    return out
-
-
-def owned(data, record):
-    """(report, own bytes) of each entry of a book in the order of the listing,
-    the bytes as they stand, leading 80 bytes with them (P3)."""
-    data, number, out = bytes(data), record['first'], []
-    while number != NONE:
-        at = chunk_place(record, number)
-        _, _, following, entries = meet(data, record, number, 'listing')
-        out += [(report(record, number, e), data[at + e[0]:at + e[-1]]) for e in entries]
-        number = following
-    return out
-
-
-def descend(data, record, name):
-    """The numbers of the chunks that a descent comes to, and the verdict on
-    the last of them, None where that one is refused."""
-    trail, number = [], record['first' if record['depth'] == 1 else 'root']
-    for level in range(record['depth'], 0, -1):
-        part = meet(data, record, number, 'listing' if level == 1 else 'index')
-        trail.append(number)
-        entry = choose(part[1], name) if part and level > 1 else None
-        if entry is None:
-            return trail, part
-        number = entry[3]
-
-
-def lookup(data, record, name, places=5):
-    """('found', report, trail), ('absent', trail), or the refusal; `places` is
-    the length of the lent trail."""
-    data, name = bytes(data), bytes(name)
-    if not 1 <= len(name) <= 1024:
-        return refused(15)
-    if places < 5:
-        return refused(16)
-    if not fits(data, record):
-        return refused(17)
-    trail, part = descend(data, record, name)
-    if part is None:
-        return refused(17)
-    entry = find(part[3], name) if part[0] == 'listing' else None
-    return ('found', report(record, trail[-1], entry), trail) if entry else ('absent', trail)
-
-
-def comparisons(data, record, name, trail):
-    """How many comparisons of the name a lookup makes in the chunks of its
-    trail (K26)."""
-    return sum(len(compared(chunk_at(data, record, number)[-1], record['density'], name)) for number in trail)
 
 
 def lined_up(names, pad=0):
     """The bytes of these names as a batch takes them (B2), each length behind
     so many bytes 80."""
     return b''.join(padded(len(name), pad) + bytes(name) for name in names)
-
-
-def names_in(data):
-    """The names that stand one behind another in these bytes, or None where B2 fails."""
-    names, at = [], 0
-    while at < len(data):
-        length = decode(data, at)
-        if length is None or at + length[1] + length[0] > len(data):
-            return None
-        at += length[1]
-        names.append(data[at:at + length[0]])
-        at += length[0]
-    return names
-
-
-def answer_bytes(got):
-    """The answer of a batch for what a lookup said of a name (B4)."""
-    status = {'found': 0, 'absent': 255}.get(got[0], got[1])
-    numbers = got[1][2:] if got[0] == 'found' else (0, 0, 0)
-    return b''.join(n.to_bytes(8, 'little') for n in (status, *numbers))
-
-
-def batch(data, names, room):
-    """('answers', their bytes), or the refusal, for the bytes of names and so
-    many bytes of room (B1 to B6, RO10)."""
-    got = opened(data)
-    if got[0] == 'refused':
-        return got
-    asked = names_in(bytes(names))
-    if asked is None or 32 * len(asked) > room:
-        return refused(22)
-    return 'answers', b''.join(answer_bytes(lookup(data, got[1], name)) for name in asked)
-
-
-def lent(data, place, length):
-    """That part of the bytes; empty where the range is not inside."""
-    return bytes(data[place:place + length]) if place + length <= len(data) else b''
-
-
-# The program
-
-def frames(data):
-    """The text that the program `list` prints for this input."""
-    data = bytes(data)
-    if len(data) > MOST:
-        return 'ee1dffffffff\n'
-    answer = opened(data)
-    if answer[0] == 'refused':
-        return 'ee%02x%08x\n' % answer[1:]
-    return ''.join(own.hex() + '\n' for _, own in owned(data, answer[1]))
 
 
 # Building
@@ -522,7 +222,7 @@ class Builder:
                 out[base + at:base + at + width] = v
         return bytes(out)
 
-    # What the model must say of a book that is built without damage
+    # What was put into a book that is built without damage
 
     def record(self):
         v = self.values()
@@ -534,31 +234,21 @@ class Builder:
         """The place of a part in the file."""
         return self.places[1] + 84 + CHUNK * self.numbers[position]
 
-    def reports(self):
-        out = []
-        for position, part in enumerate(self.levels[0]):
-            at = self.part_at(position) + HEADER[LISTING]
-            for (name, *numbers), raw in zip(part.entries, part.raw()):
-                front = len(padded(len(name), part.pads(name)[0]))
-                out.append((at + front, len(name), *numbers))
-                at += len(raw)
-        return out
+    def entries(self):
+        return [e for part in self.levels[0] for e in part.entries]
 
     def own(self):
         """The own bytes of each entry, as they are to stand."""
         return [raw for part in self.levels[0] for raw in part.raw()]
 
     def names(self):
-        return [e[0] for part in self.levels[0] for e in part.entries]
-
-
-def build_book(entries, content=b'', **options):
-    return Builder(entries, content, **options).build()
+        return [e[0] for e in self.entries()]
 
 
 # Random books
 
-FOLDED = bytes(fold(b) for b in range(256))
+# 41..5A are raised to 61..7A: by this key names rise in the order of S1 and S2.
+FOLDED = bytes(b + 0x20 if 0x41 <= b <= 0x5A else b for b in range(256))
 
 
 def rising(names):

@@ -1,4 +1,4 @@
-"""Two issues of a book side by side, by dictionaries over the model's listing: nothing here walks along two books at once. Kinds are those of `hods compare`.
+"""Two issues of a book side by side, by the second implementation. Kinds are those of `hods compare`.
 
   differences(old, new)   [(kind, the old entry, the new entry)] in the order of names; an entry is (name, section, offset, length), None where there is none
   totals(old, new)        how many names there are of each kind
@@ -7,36 +7,29 @@
 """
 import re
 
-from books import lent, listing, opened
-from chunks import fold
+from second import answer, numbers
 
 KINDS = 'only_old', 'only_new', 'changed'
 
 
-def by_name(data):
-    """The entries of a book that opens, by folded name."""
-    entries = [(lent(data, place, size), *numbers) for place, size, *numbers in listing(data, opened(data)[1])]
-    return {bytes(map(fold, entry[0])): entry for entry in entries}
+def compared(old, new):
+    """The totals, and the differences, 15 numbers each: the kind, and seven of each entry."""
+    told = numbers(answer(old, 'X', new))
+    return told[:4], [told[i:i + 15] for i in range(4, len(told), 15)]
 
 
-def sides(old, new):
-    """(kind, the old entry, the new entry) of every name, those that are the same too."""
-    old, new = by_name(old), by_name(new)
-    for name in sorted(set(old) | set(new)):
-        was, now = old.get(name), new.get(name)
-        if was and now:
-            yield 'same' if was[1:] == now[1:] else 'changed', was, now
-        else:
-            yield 'only_old' if was else 'only_new', was, now
+def entry(data, seven):
+    place, size, *stored = seven[:5]
+    return (data[place:place + size], *stored) if size else None
 
 
 def differences(old, new):
-    return [side for side in sides(old, new) if side[0] != 'same']
+    return [(KINDS[kind - 1], entry(old, rest[:7]), entry(new, rest[7:])) for kind, *rest in compared(old, new)[1]]
 
 
 def totals(old, new):
-    kinds = [side[0] for side in sides(old, new)]
-    return {kind: kinds.count(kind) for kind in (*KINDS, 'same')}
+    only_old, only_new, same, changed = compared(old, new)[0]
+    return dict(only_old=only_old, only_new=only_new, changed=changed, same=same)
 
 
 def unescaped(text):

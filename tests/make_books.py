@@ -16,8 +16,9 @@ import os
 import random
 import sys
 
-from books import Builder, frames, opened, rising, runs
+from books import Builder, rising, runs
 from chunks import HEADER, INDEX, LISTING, index_entry, listing_entry
+from second import frames, opened
 
 YEARS = ('1720', '1749', '1808', '1888')
 PLACES = ('Upper-Reaches', 'lower-reaches', 'Oberwald', 'St-Anton-am-Bach')
@@ -116,8 +117,7 @@ def write_large(entry, path, less=None):
     b = large(entry)
     write_built(b, path)
     if less:
-        entries = [e for part in b.levels[0] for e in part.entries]
-        write_built(Builder([e for i, e in enumerate(entries, 1) if i % 61], density=b.density), less)
+        write_built(Builder([e for i, e in enumerate(b.entries(), 1) if i % 61], density=b.density), less)
 
 
 def measured_long(i):
@@ -134,7 +134,6 @@ MEASURED = {'long': (measured_long, 100000), 'short': (measured_short, 600000)}
 
 
 def write_measured(kind, path, names_path, asked=4000):
-    """The model does not judge these books, which would take most of the time: opening is what is measured."""
     entry, count = MEASURED[kind]
     b = Builder([entry(i) for i in range(count)])
     with open(path, 'wb') as f:

@@ -1,18 +1,22 @@
 """Makes the input and the expected output of crates/chunk_report, with a table of its cases.
 
 The input holds cases of 4,096 bytes, one chunk each. Each case's answer is set
-here by hand, from docs/FORMAT.md; the model of chunks.py must agree with it, and
-gives what the searches find. `--check` writes nothing and says what differs.
+here by hand, from docs/FORMAT.md; the second implementation must agree with it,
+and gives what the searches find. `--check` writes nothing and says what differs.
 """
 
 import os
 import random
 import sys
 
-from chunks import (CHUNK, LISTING, NONE, build_index, build_listing, choose, encode,
-                    find, index_entry, listing_entry, nth, verdict)
+from chunks import CHUNK, LISTING, NONE, build_index, build_listing, encode, index_entry, listing_entry
+from second import answer, line
 
 DENSITY, COUNT, CONTENT = 2, 3, 5
+# what the program searches in a good chunk: these entries and the last one; and for these names, the entry of a listing chunk, the child of an index chunk
+ENTRIES = 0, 4, 5, 9, 10, 65535
+NAMES = b'/', b'/000', b'/005XX', b'/005', b'/9', b'/Z', b'/a.HTM'
+REPORT = line('K', DENSITY, COUNT, CONTENT, ','.join(map(str, ENTRIES)), ','.join(n.hex() for n in NAMES))
 TOP = 2 ** 63 - 1
 cases = []
 
@@ -350,43 +354,16 @@ def shown(name_bytes):
     return ''.join(chr(b) if 32 < b < 127 and b != 0x60 else '<%02X>' % b for b in name_bytes)
 
 
-def printed(answer):
-    if answer[0] == 'refused':
-        return str(answer[1])
-    if answer[0] == 'listing':
-        return L(len(answer[3]), answer[1], answer[2])
-    return I(len(answer[1]))
-
-
-def searches(answer):
-    """What a good chunk's searches find: the places of entries 0, 4, 5, 9, 10, 65535 and the last; then, for some names, the places of their entries in a listing
-    chunk, the children to which they lead in an index chunk, where entry i has child i % 3."""
-    if answer[0] == 'refused':
-        return ''
-    entries = answer[-1]
-    seek, told = (find, 0) if answer[0] == 'listing' else (choose, 3)
-    hits = [nth(entries, i) for i in (0, 4, 5, 9, 10, 65535)] + [entries[-1]]
-    asked = [seek(entries, n) for n in (b'/', b'/000', b'/005XX', b'/005', b'/9', b'/Z', b'/a.HTM')]
-    shown = lambda found, field: ''.join(' %d' % e[field] if e else ' -' for e in found)
-    return ' :' + shown(hits, 0) + ' :' + shown(asked, told)
-
-
 def made():
-    """The chunks, the report's output and the table of cases; ends with a message where the model differs from an answer set by hand."""
+    """The chunks, the report's output and the table of cases; ends with a message where the second implementation differs from an answer set by hand."""
     for group in (good_chunks, quick_words, tails, filling, names, numbers, padding, padded_words, order, several, tags, index_chunks,
                   padded_children):
         group()
-    wrong = 0
-    lines = []
-    for k, (what, rows, chunk, answer) in enumerate(cases, 1):
-        model = verdict(chunk, DENSITY, COUNT, CONTENT)
-        if len(chunk) != CHUNK or printed(model) != answer:
-            print('case %d (%s): by hand %s, by the model %s' % (k, what, answer, printed(model)))
-            wrong += 1
-        lines.append(answer + searches(model))
+    lines = [answer(chunk, REPORT) for _, _, chunk, _ in cases] + [answer(bytes(100), REPORT)]
+    wrong = ['case %d (%s): by hand %s, by the second implementation %s' % (k, what, by_hand, told)
+             for k, ((what, _, _, by_hand), told) in enumerate(zip(cases, lines), 1) if told.split(' :')[0] != by_hand]
     if wrong:
-        raise SystemExit('%d cases differ' % wrong)
-    lines.append('8')
+        raise SystemExit('\n'.join(wrong))
     table = ['# Cases of the chunk report', '',
              'Each is one chunk of 4,096 bytes, held to density 2, 3 chunks and a content of 5 bytes; behind them stand 100 bytes more.',
              'Rows are those of docs/FORMAT.md. Made by tests/make_chunks.py.', '',
@@ -398,13 +375,13 @@ def made():
             'samples/chunk.bin': cases[0][2]}
 
 
-def main():
+def main(words):
     """Writes the files, or with --check says which of them differ from what is made."""
     top = os.path.dirname(os.path.dirname(os.path.abspath(__file__)))
     differ = []
     for path, data in made().items():
         path = os.path.join(top, path)
-        if '--check' in sys.argv:
+        if '--check' in words:
             if not os.path.exists(path) or open(path, 'rb').read() != data:
                 differ.append(path)
         else:
@@ -417,4 +394,4 @@ def main():
 
 
 if __name__ == '__main__':
-    main()
+    main(sys.argv[1:])

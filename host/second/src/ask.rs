@@ -72,10 +72,7 @@ fn descend(
                 return Ok(answer(report, met, count));
             }
             Chunk::Index { entries } if level > 1 => {
-                let taken = entries
-                    .iter()
-                    .rfind(|entry| compare(entry.name, name) != Ordering::Greater);
-                match taken {
+                match leading(&entries, name) {
                     Some(entry) => at = entry.value,
                     None => return Ok(answer(None, met, count)),
                 }
@@ -100,10 +97,20 @@ fn answer(report: Option<Report>, met: &[u64], comparisons: u64) -> Answer {
 }
 
 /// The entry of a listing chunk that holds the name (FORMAT Q5).
-fn holding<'b, 'a>(entries: &'b [Entry<'a, Stored>], name: &[u8]) -> Option<&'b Entry<'a, Stored>> {
+pub fn holding<'b, 'a>(
+    entries: &'b [Entry<'a, Stored>],
+    name: &[u8],
+) -> Option<&'b Entry<'a, Stored>> {
     entries
         .iter()
         .find(|entry| compare(entry.name, name) == Ordering::Equal)
+}
+
+/// The entry of an index chunk whose child a name leads to (FORMAT Q2).
+pub fn leading<'b, 'a>(entries: &'b [Entry<'a, u64>], name: &[u8]) -> Option<&'b Entry<'a, u64>> {
+    entries
+        .iter()
+        .rfind(|entry| compare(entry.name, name) != Ordering::Greater)
 }
 
 /// Looks a name up along the chain, without the index (FORMAT K16 to K19, RO5).

@@ -9,7 +9,7 @@ pub(crate) const LISTING_HEADER: usize = 20;
 pub(crate) const INDEX_HEADER: usize = 8;
 
 /// What a chunk is judged with besides its own bytes.
-pub(crate) struct Limits {
+pub struct Limits {
     /// 0 to 7.
     pub density: u64,
     pub count: u64,
@@ -17,7 +17,7 @@ pub(crate) struct Limits {
 }
 
 /// An entry of a chunk; `value` is what follows the name.
-pub(crate) struct Entry<'a, Value> {
+pub struct Entry<'a, Value> {
     /// Its own bytes as they stand, from the start of the chunk: no number has to be in its short
     /// form, so they do not follow from the numbers (FORMAT N4, K25).
     pub own: Range<usize>,
@@ -29,14 +29,14 @@ pub(crate) struct Entry<'a, Value> {
 
 /// What follows the name in a listing entry (FORMAT E1).
 #[derive(Clone, Copy)]
-pub(crate) struct Stored {
+pub struct Stored {
     pub section: u64,
     pub offset: u64,
     pub size: u64,
 }
 
 /// A chunk that keeps every rule of its own. It has at least one entry.
-pub(crate) enum Chunk<'a> {
+pub enum Chunk<'a> {
     Listing {
         previous: u32,
         next: u32,
@@ -75,7 +75,7 @@ pub fn quick_words(c: u64, density: u64) -> u64 {
 }
 
 /// Reads a chunk or says which of 8, 9, 10, 12 and 11, tried in this order, refuses it.
-pub(crate) fn read_chunk<'a>(bytes: &'a [u8], limits: &Limits) -> Result<Chunk<'a>, u8> {
+pub fn read_chunk<'a>(bytes: &'a [u8], limits: &Limits) -> Result<Chunk<'a>, u8> {
     if bytes.len() != CHUNK {
         return Err(8); // FORMAT C15
     }

@@ -20,9 +20,11 @@ mod opened;
 mod search;
 mod write;
 
-pub use ask::{chunk_entries, chunk_listed, lookup, met, own, part, scan, start, step};
+pub use ask::{
+    chunk_entries, chunk_listed, holding, leading, lookup, met, own, part, scan, start, step,
+};
 pub use batch::{batch, batch_after, batch_names, ANSWER};
-pub use chunk::quick_words;
+pub use chunk::{quick_words, read_chunk, Chunk, Entry, Limits, Stored};
 pub use comparison::{
     compare_start, compare_step, Compared, Difference, Listed, Progress, Side, Totals, Walk,
 };
@@ -31,7 +33,7 @@ pub use name::{compare, order};
 pub use number::{encint, read_encint};
 pub use open::open;
 pub use opened::{lookup_opened, stands_there, Expected};
-pub use search::{comparisons, most_comparisons};
+pub use search::{compared, comparisons, most_comparisons};
 pub use write::write_head;
 
 /// Stands for no chunk where a chunk number is expected, and for no place in a refusal.

@@ -70,6 +70,35 @@ fn around_five_groups() {
     assert_eq!(bounds, [4, 5, 5]);
 }
 
+/// FORMAT Q8 to Q10: the very names that are compared, in turn.
+#[test]
+fn names_in_turn() {
+    let bytes: Vec<[u8; 1]> = (b'b'..=b'l').map(|name| [name]).collect();
+    let names: Vec<&[u8]> = bytes.iter().map(|name| &name[..]).collect();
+    let turns = |density, asked: &str| compared(&names, density, asked.as_bytes()).concat();
+    // Groups `bcdef ghijk l`.
+    let rows = [("a", "gb"), ("b", "gb"), ("B", "gb"), ("d", "gbcd")];
+    let more = [
+        ("c!", "gbcd"),
+        ("f", "gbcdef"),
+        ("f!", "gbcdef"),
+        ("g", "glg"),
+    ];
+    let last = [
+        ("k", "glghijk"),
+        ("k!", "glghijk"),
+        ("l", "gll"),
+        ("z", "gll"),
+    ];
+    for (asked, wanted) in rows.into_iter().chain(more).chain(last) {
+        assert_eq!(turns(2, asked), wanted.as_bytes(), "{asked}");
+    }
+    // One group; and groups `bc de fg hi jk l`.
+    for (density, asked, wanted) in [(7, "d!", "bcde"), (0, "g", "hdffg"), (0, "m", "hjll")] {
+        assert_eq!(turns(density, asked), wanted.as_bytes(), "{asked}");
+    }
+}
+
 /// FORMAT Q12: h rises by one where a power of two is passed, and at density 0 a group has two.
 #[test]
 fn bounds() {
@@ -81,6 +110,19 @@ fn bounds() {
     assert_eq!(most_comparisons(129, 7), 129);
     assert_eq!(most_comparisons(130, 7), 130);
     assert_eq!(most_comparisons(516, 7), 131);
+    let rows = [
+        (5, 5),
+        (6, 6),
+        (10, 6),
+        (11, 7),
+        (20, 7),
+        (21, 8),
+        (40, 8),
+        (41, 9),
+    ];
+    for (entries, most) in rows {
+        assert_eq!(most_comparisons(entries, 2), most);
+    }
 }
 
 /// Names of several bytes: folded, and with one that begins another (FORMAT S1, S2).
