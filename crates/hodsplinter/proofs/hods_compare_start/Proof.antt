@@ -1,7 +1,5 @@
 use borrow.Author.Needs.{needs}
-use mathlib.Core.Path.{refl, ap, ap₂, _∙_}
-use Rattle.compare.specs.Compare.{compareStart}
-use Rattle.hodsplinter.specs.Differences.{walksNumbers}
+use mathlib.Core.Path.{refl}
 use Rattle.hodsplinter.proofs.hods_compare_start.Statement.{statement}
 use Rattle.hodsplinter.proofs.hods_compare_start.Tie as tie
 
@@ -19,7 +17,7 @@ walks-numbers-requires c κs = search needs
 
 returns : tie.Need-returns
 returns c =
-    (refl, c .walks-numbers .ensures ∙ ap walksNumbers (c .before .start .ensures .0 ∙ ap₂ compareStart (c .before .before .before .record-in .ensures) (c .before .before .record-in2 .ensures)))
+    (refl, rw (c .before .start .ensures .0, c .before .before .before .record-in .ensures, c .before .before .record-in2 .ensures) at (c .walks-numbers .ensures))
 
 pub hods-compare-start-spec : {M : Type 1} → statement M
 hods-compare-start-spec =

@@ -1,6 +1,6 @@
 use borrow.Author.Needs.{needs}
+use mathlib.Core.Path.{ap}
 use lib.ListN.{length}
-use mathlib.Core.Path.{_≡_, refl, sym, ap, _∙_}
 use Rattle.hodsplinter.proofs.hods_part.Statement.{statement}
 use Rattle.hodsplinter.proofs.hods_part.Tie as tie
 

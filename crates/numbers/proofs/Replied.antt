@@ -10,7 +10,7 @@ use Rattle.lookup.specs.Lookup.{lookedUp}
 use Rattle.lookup.specs.Reply.{replyOf, SameAsLookup}
 use Rattle.lookup.specs.declared.Answer.{Answer}
 use Rattle.lookup.specs.declared.Reply.{Reply}
-use Rattle.hodsplinter.specs.Numbers.{lookupCode, replyCode, replyNumbers}
+use Rattle.numbers.specs.Numbers.{lookupCode, replyCode, replyNumbers}
 
 reply-code : (x : Answer) → replyCode (replyOf x) ≡ lookupCode x
 reply-code (Answer.Found n x) = refl

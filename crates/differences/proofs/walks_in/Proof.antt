@@ -1,8 +1,8 @@
 use borrow.Author.Needs.{needs}
 use mathlib.Core.Path.{refl}
-use Rattle.hodsplinter.specs.Differences.{walksIn}
-use Rattle.hodsplinter.proofs.walks_in.Statement.{statement}
-use Rattle.hodsplinter.proofs.walks_in.Tie as tie
+use Rattle.differences.specs.Differences.{walksIn}
+use Rattle.differences.proofs.walks_in.Statement.{statement}
+use Rattle.differences.proofs.walks_in.Tie as tie
 
 element-copy-out-t7 : tie.Need-element-copy-out-t7
 element-copy-out-t7 c = search needs

@@ -1,8 +1,8 @@
 use borrow.Author.Needs.{needs}
 use mathlib.Core.Path.{refl}
-use Rattle.hodsplinter.specs.Numbers.{recordIn}
-use Rattle.hodsplinter.proofs.record_in.Statement.{statement}
-use Rattle.hodsplinter.proofs.record_in.Tie as tie
+use Rattle.numbers.specs.Numbers.{recordIn}
+use Rattle.numbers.proofs.record_in.Statement.{statement}
+use Rattle.numbers.proofs.record_in.Tie as tie
 
 element-copy-out-t4 : tie.Need-element-copy-out-t4
 element-copy-out-t4 c = search needs

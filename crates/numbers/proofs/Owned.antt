@@ -14,7 +14,7 @@ use Rattle.listing.specs.declared.Step.the-variants.{Entry, End, Refused}
 use Rattle.listing.specs.declared.Owned.{Owned}
 use Rattle.listing.specs.declared.Owned.the-variants.{At, Nothing}
 use Rattle.listing.proofs.Refusals.{step-refusal}
-use Rattle.hodsplinter.specs.Numbers.{stepCode, ownCode}
+use Rattle.numbers.specs.Numbers.{stepCode, ownCode}
 
 -- a step that is refused by 17 alone
 told : (s : List ℕ) (t : Step) (o : Owned) → ((q : Refusal) → t ≡ Refused q → q ≡ refusal) → OwnBeside s t o → (ownCode o ≡ 0) ↔ (stepCode t ≡ 0)

@@ -42,8 +42,8 @@ recordIn n =
       content = getD n 10 0;
     }
 
-abbrev pub numbersOf : Record → List ℕ
-numbersOf r =
+abbrev pub recordNumbers : Record → List ℕ
+recordNumbers r =
     r .version ∷ r .time ∷ r .language ∷ r .start ∷ r .count ∷ r .density ∷ r .depth ∷ r .root ∷ r .first ∷ r .last ∷ r .content ∷ []
 
 -- ---- a refusal: its number plus 256 times its place
@@ -58,7 +58,7 @@ openCode (Book r) = 0
 openCode (Opened.Refused x) = refusalCode x
 
 abbrev pub openRecord : Opened → List ℕ → List ℕ
-openRecord (Book r) was = numbersOf r
+openRecord (Book r) was = recordNumbers r
 openRecord (Opened.Refused x) was = was
 
 -- ---- lookup: 0 and seven numbers, 255 and the two counts alone, or the refusal with nothing changed
@@ -105,8 +105,8 @@ pageNumbers (Page.Refused x) was = was
 
 -- ---- a cursor as two numbers, chunk and entry
 
-abbrev pub cursorOf : List ℕ → Cursor
-cursorOf n = record { chunk = getD n 0 0; entry = getD n 1 0 }
+abbrev pub cursorIn : List ℕ → Cursor
+cursorIn n = record { chunk = getD n 0 0; entry = getD n 1 0 }
 
 abbrev pub cursorNumbers : Cursor → List ℕ
 cursorNumbers at = at .chunk ∷ at .entry ∷ []

@@ -5,13 +5,12 @@ use mathlib.Core.List.{List, [], _∷_, _++_}
 use lib.ListN.{getD}
 use Rattle.listing.specs.Listing.{fiveOf}
 use Rattle.walk.specs.declared.Walk.{Walk}
-use Rattle.compare.specs.Compare.{compareStep}
 use Rattle.compare.specs.declared.Totals.{Totals}
 use Rattle.compare.specs.declared.Cursor.{Cursor}
 use Rattle.compare.specs.declared.Shown.{Shown}
 use Rattle.compare.specs.declared.Step.{Step}
 use Rattle.compare.specs.declared.Step.the-variants.{First, Second, Changed, End, Refused}
-use Rattle.hodsplinter.specs.Numbers.{recordIn, refusalCode}
+use Rattle.numbers.specs.Numbers.{refusalCode}
 
 -- ---- a cursor as fourteen numbers: two walks in the order of their fields, then the totals
 
@@ -43,12 +42,7 @@ nothing = record { report = record { place = 0; length = 0; section = 0; offset 
 abbrev pub fifteenOf : ℕ → Shown → Shown → List ℕ
 fifteenOf kind x y = kind ∷ (sevenOf x ++ sevenOf y)
 
--- ---- a step by the numbers of its records and its cursor
-
-abbrev pub comparisonAt : List ℕ → List ℕ → List ℕ → List ℕ → List ℕ → Step
-comparisonAt s₁ r₁ s₂ r₂ n = compareStep s₁ (recordIn r₁) s₂ (recordIn r₂) (walksIn n)
-
--- its answer: 0 and a difference with the cursor moved on, 255 and the totals, or the refusal plus 2^40 times its book's number
+-- ---- the answer of a step: 0 and a difference with the cursor moved on, 255 and the totals, or the refusal plus 2^40 times its book's number
 
 abbrev pub compareCode : Step → ℕ
 compareCode (First x at) = 0

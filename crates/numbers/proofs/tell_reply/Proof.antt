@@ -1,6 +1,6 @@
 use borrow.Author.Needs.{needs}
-use Rattle.hodsplinter.proofs.tell.Statement.{statement}
-use Rattle.hodsplinter.proofs.tell.Tie as tie
+use Rattle.numbers.proofs.tell_reply.Statement.{statement}
+use Rattle.numbers.proofs.tell_reply.Tie as tie
 
 enum-known-reply : tie.Need-enum-known-reply
 enum-known-reply c = search needs
@@ -23,5 +23,5 @@ returns-2 c = let z = c .enum-told .given .1 in (rw z, rw z)
 returns-3 : tie.Need-returns-3
 returns-3 c = let z = c .before .before .reply2 .given .1 in (rw z (c .code .ensures), rw z)
 
-pub tell-spec : {M : Type 1} → statement M
-tell-spec = tie.close (tie.spec enum-known-reply enum-told enum-known-reply-2 code-requires returns returns-2 returns-3)
+pub tell-reply-spec : {M : Type 1} → statement M
+tell-reply-spec = tie.close (tie.spec enum-known-reply enum-told enum-known-reply-2 code-requires returns returns-2 returns-3)
