@@ -16,7 +16,7 @@ use Rattle.fields.proofs.Parts.{length-part, part-inside, part-outside, part-sm
 use Rattle.entries.specs.declared.Place.{Place}
 use Rattle.chunk.specs.Chunk.{entryOf, isKind}
 use Rattle.chunk.proofs.Accepted.{accepted}
-use Rattle.header.specs.Header.{within}
+use Rattle.directory_header.specs.DirectoryHeader.{within}
 use Rattle.header.specs.declared.Record.{Record}
 use Rattle.book.specs.Book.{limitsOf, chunkPlace, chunkBytes, directoryOf, bookFits, reportOf, reportAt, ownOf, ownAt}
 

@@ -16,7 +16,7 @@ use Rattle.chunk.specs.Chunk.{Entry, Parsed, parsed}
 use Rattle.chunk.specs.Answer.{chunkOf}
 use Rattle.chunk.specs.declared.Chunk.{Chunk}
 use Rattle.chunk.specs.declared.Chunk.the-variants.{Refused}
-use Rattle.header.specs.Header.{within}
+use Rattle.directory_header.specs.DirectoryHeader.{within}
 use Rattle.header.specs.declared.Record.{Record}
 use Rattle.tree.specs.Shape.{Shape, noChunk}
 use Rattle.book.specs.declared.Refusal.{Refusal}

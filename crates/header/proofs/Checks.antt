@@ -1,92 +1,87 @@
--- The checks of a head in their order: all seven hold where a head is good, and the record is that of the file (`head-rules`); where all
--- hold, it is good (`head-good`); a refusal has one of their numbers (`head-refused`).
+-- The headers of a file put together: where each is good, the whole is (`header-good`), and the other way round (`header-both`); a refusal has
+-- a number of the table (`header-refused`).
 -- Assumes nothing.
-use mathlib.Core.Path.{_≡_, refl, sym, _∙_}
+use mathlib.Core.Path.{_≡_, refl}
 use mathlib.Core.List.{List}
-use mathlib.Core.Bool.{Bool, true, false}
 use Prim.Native.Nat.{ℕ, _≤_}
 use native.Mathlib.Omega.{arith}
 use lib.ListN.{length}
-use lib.Dec.{lit≤}
-use Rattle.header.specs.Header.{headerIn, sectionIn, directoryIn, directoryLength, longEnough, fileTagged, versionRight, sectionsRight, lengthRight, directoryTagged, directoryRight, recordOf, check, headOf}
+use Rattle.file_header.specs.FileHeader.{fileHeaderOf, sectionZeroOf}
+use Rattle.file_header.specs.declared.FileFields.{FileFields}
+use Rattle.file_header.specs.declared.CheckedFileHeader.{CheckedFileHeader}
+use Rattle.file_header.specs.declared.CheckedSectionZero.{CheckedSectionZero}
+use Rattle.file_header.proofs.Checks.{file-refused, section-refused}
+use Rattle.directory_header.specs.DirectoryHeader.{directoryHeaderOf}
+use Rattle.directory_header.specs.declared.DirectoryFields.{DirectoryFields}
+use Rattle.directory_header.specs.declared.CheckedDirectoryHeader.{CheckedDirectoryHeader}
+use Rattle.directory_header.proofs.Checks.{directory-refused}
+use Rattle.header.specs.Header.{recordFrom, headerIn, sectionIn, directoryIn, afterDirectory, directoryThen, afterSection, sectionThen, afterFile, headerOf}
 use Rattle.header.specs.declared.Record.{Record}
-use Rattle.header.specs.declared.Head.{Head}
-use Rattle.header.specs.declared.Head.the-variants.{Good, Refused}
+use Rattle.header.specs.declared.CheckedHeader.the-variants.{Good, Refused}
 
--- all seven rules hold
-pub record Rules (s : List ℕ) : Type 0 where
-  pub long : longEnough (length s) ≡ true
-  pub tagged : fileTagged (headerIn s) ≡ true
-  pub version : versionRight (headerIn s) ≡ true
-  pub sections : sectionsRight (headerIn s) (length s) ≡ true
-  pub size : lengthRight (sectionIn s) (length s) ≡ true
-  pub directory : directoryTagged (directoryIn s) ≡ true
-  pub numbers : directoryRight (directoryIn s) (directoryLength (headerIn s)) ≡ true
+pub header-good : (s : List ℕ) (f : FileFields) (d : DirectoryFields) → fileHeaderOf (headerIn s) (length s) ≡ CheckedFileHeader.Good f
+    → sectionZeroOf (sectionIn s f) (length s) ≡ CheckedSectionZero.Good
+    → directoryHeaderOf (directoryIn s f) (f .length) ≡ CheckedDirectoryHeader.Good d → headerOf s ≡ Good (recordFrom f d)
+unfolding headerOf sectionThen directoryThen
+header-good s f d a b c = rw (a, b, c)
 
--- ---- what is left to be checked behind check n
+module _ (s : List ℕ) where
+  -- ---- a good one
 
-abbrev pub left6 : List ℕ → Head
-left6 s = check (directoryRight (directoryIn s) (directoryLength (headerIn s))) 7 (Good (recordOf s))
+  -- what both headers of the file say makes the record
+  pub record BothGood (r : Record) : Type 0 where
+    pub f : FileFields
+    pub d : DirectoryFields
+    pub file : fileHeaderOf (headerIn s) (length s) ≡ CheckedFileHeader.Good f
+    pub directory : directoryHeaderOf (directoryIn s f) (f .length) ≡ CheckedDirectoryHeader.Good d
+    pub is : recordFrom f d ≡ r
 
-abbrev pub left5 : List ℕ → Head
-left5 s = check (directoryTagged (directoryIn s)) 6 (left6 s)
+  directory-both : (r : Record) (f : FileFields) → fileHeaderOf (headerIn s) (length s) ≡ CheckedFileHeader.Good f → directoryThen s f ≡ Good r → BothGood r
+  unfolding directoryThen
+  directory-both r f p = go (directoryHeaderOf (directoryIn s f) (f .length)) refl
+    where
+      go : (x : CheckedDirectoryHeader) → directoryHeaderOf (directoryIn s f) (f .length) ≡ x → afterDirectory f x ≡ Good r → BothGood r
+      go (CheckedDirectoryHeader.Good d) q e = record { f = f; d = d; file = p; directory = q; is = cc }
+      go (CheckedDirectoryHeader.Refused n) q e = absurd (let z : _≡_ {A = ℕ} 0 1 = cc in omega arith)
 
-abbrev pub left4 : List ℕ → Head
-left4 s = check (lengthRight (sectionIn s) (length s)) 5 (left5 s)
+  section-both : (r : Record) (f : FileFields) → fileHeaderOf (headerIn s) (length s) ≡ CheckedFileHeader.Good f → sectionThen s f ≡ Good r → BothGood r
+  unfolding sectionThen
+  section-both r f p = go (sectionZeroOf (sectionIn s f) (length s))
+    where
+      go : (x : CheckedSectionZero) → afterSection s f x ≡ Good r → BothGood r
+      go CheckedSectionZero.Good e = directory-both r f p e
+      go (CheckedSectionZero.Refused n) e = absurd (let z : _≡_ {A = ℕ} 0 1 = cc in omega arith)
 
-abbrev pub left3 : List ℕ → Head
-left3 s = check (sectionsRight (headerIn s) (length s)) 4 (left4 s)
+  pub header-both : (r : Record) → headerOf s ≡ Good r → BothGood r
+  unfolding headerOf
+  header-both r = go (fileHeaderOf (headerIn s) (length s)) refl
+    where
+      go : (x : CheckedFileHeader) → fileHeaderOf (headerIn s) (length s) ≡ x → afterFile s x ≡ Good r → BothGood r
+      go (CheckedFileHeader.Good f) p e = section-both r f p e
+      go (CheckedFileHeader.Refused n) p e = absurd (let z : _≡_ {A = ℕ} 0 1 = cc in omega arith)
 
-abbrev pub left2 : List ℕ → Head
-left2 s = check (versionRight (headerIn s)) 3 (left3 s)
+  -- ---- a refused one
 
-abbrev pub left1 : List ℕ → Head
-left1 s = check (fileTagged (headerIn s)) 2 (left2 s)
+  directory-number : (n : ℕ) (f : FileFields) → directoryThen s f ≡ Refused n → (6 ≤ n) × (n ≤ 7)
+  unfolding directoryThen
+  directory-number n f = go (directoryHeaderOf (directoryIn s f) (f .length)) refl
+    where
+      go : (x : CheckedDirectoryHeader) → directoryHeaderOf (directoryIn s f) (f .length) ≡ x → afterDirectory f x ≡ Refused n → (6 ≤ n) × (n ≤ 7)
+      go (CheckedDirectoryHeader.Good d) q e = absurd (let z : _≡_ {A = ℕ} 0 1 = cc in omega arith)
+      go (CheckedDirectoryHeader.Refused k) q e = let z : k ≡ n = cc in let t = directory-refused _ _ k q in (omega arith, omega arith)
 
-pub head-checks : (s : List ℕ) → headOf s ≡ check (longEnough (length s)) 1 (left1 s)
-unfolding headOf
-head-checks s = refl
+  section-number : (n : ℕ) (f : FileFields) → sectionThen s f ≡ Refused n → (5 ≤ n) × (n ≤ 7)
+  unfolding sectionThen
+  section-number n f = go (sectionZeroOf (sectionIn s f) (length s)) refl
+    where
+      go : (x : CheckedSectionZero) → sectionZeroOf (sectionIn s f) (length s) ≡ x → afterSection s f x ≡ Refused n → (5 ≤ n) × (n ≤ 7)
+      go CheckedSectionZero.Good q e = let t = directory-number n f e in (omega arith, omega arith)
+      go (CheckedSectionZero.Refused k) q e = let z : k ≡ n = cc in let t = section-refused _ _ k q in (omega arith, omega arith)
 
--- ---- a good head
-
-passed : (t : Bool) (n : ℕ) (x : Head) (r : Record) → check t n x ≡ Good r → (t ≡ true) × (x ≡ Good r)
-passed true n x r e = (refl, e)
-passed false n x r e = absurd (let z : _≡_ {A = ℕ} 0 1 = cc in omega arith)
-
-same-record : (a b : Record) → Good a ≡ Good b → b ≡ a
-same-record a b e = let z : a ≡ b = cc in sym z
-
-pub head-rules : (s : List ℕ) (r : Record) → headOf s ≡ Good r → (r ≡ recordOf s) × Rules s
-head-rules s r e =
-    let p1 = passed (longEnough (length s)) 1 (left1 s) r (sym (head-checks s) ∙ e) in
-    let p2 = passed (fileTagged (headerIn s)) 2 (left2 s) r (p1 .1) in
-    let p3 = passed (versionRight (headerIn s)) 3 (left3 s) r (p2 .1) in
-    let p4 = passed (sectionsRight (headerIn s) (length s)) 4 (left4 s) r (p3 .1) in
-    let p5 = passed (lengthRight (sectionIn s) (length s)) 5 (left5 s) r (p4 .1) in
-    let p6 = passed (directoryTagged (directoryIn s)) 6 (left6 s) r (p5 .1) in
-    let p7 = passed (directoryRight (directoryIn s) (directoryLength (headerIn s))) 7 (Good (recordOf s)) r (p6 .1) in (
-      same-record (recordOf s) r (p7 .1),
-      record { long = p1 .0; tagged = p2 .0; version = p3 .0; sections = p4 .0; size = p5 .0; directory = p6 .0; numbers = p7 .0 },
-    )
-
-pub head-good : (s : List ℕ) → Rules s → headOf s ≡ Good (recordOf s)
-unfolding headOf
-head-good s h = simp (h .long, h .tagged, h .version, h .sections, h .size, h .directory, h .numbers)
-
--- ---- a refused head
-
-numbered : (t : Bool) (k : ℕ) (x : Head) (n : ℕ) → 1 ≤ k → k ≤ 7 → (x ≡ Refused n → (1 ≤ n) × (n ≤ 7)) → check t k x ≡ Refused n → (1 ≤ n) × (n ≤ 7)
-numbered true k x n low high f e = f e
-numbered false k x n low high f e = let z : k ≡ n = cc in (omega arith, omega arith)
-
-pub head-refused : (s : List ℕ) (n : ℕ) → headOf s ≡ Refused n → (1 ≤ n) × (n ≤ 7)
-head-refused s n e =
-    numbered (longEnough (length s)) 1 (left1 s) n (lit≤ tt) (lit≤ tt)
-    (numbered (fileTagged (headerIn s)) 2 (left2 s) n (lit≤ tt) (lit≤ tt)
-    (numbered (versionRight (headerIn s)) 3 (left3 s) n (lit≤ tt) (lit≤ tt)
-    (numbered (sectionsRight (headerIn s) (length s)) 4 (left4 s) n (lit≤ tt) (lit≤ tt)
-    (numbered (lengthRight (sectionIn s) (length s)) 5 (left5 s) n (lit≤ tt) (lit≤ tt)
-    (numbered (directoryTagged (directoryIn s)) 6 (left6 s) n (lit≤ tt) (lit≤ tt)
-    (numbered (directoryRight (directoryIn s) (directoryLength (headerIn s))) 7 (Good (recordOf s)) n (lit≤ tt) (lit≤ tt)
-    (λ g. absurd (let z : _≡_ {A = ℕ} 0 1 = cc in omega arith))))))))
-    (sym (head-checks s) ∙ e)
+  pub header-refused : (n : ℕ) → headerOf s ≡ Refused n → (1 ≤ n) × (n ≤ 7)
+  unfolding headerOf
+  header-refused n = go (fileHeaderOf (headerIn s) (length s)) refl
+    where
+      go : (x : CheckedFileHeader) → fileHeaderOf (headerIn s) (length s) ≡ x → afterFile s x ≡ Refused n → (1 ≤ n) × (n ≤ 7)
+      go (CheckedFileHeader.Good f) q e = let t = section-number n f e in (omega arith, omega arith)
+      go (CheckedFileHeader.Refused k) q e = let z : k ≡ n = cc in let t = file-refused _ _ k q in (omega arith, omega arith)

@@ -3,7 +3,8 @@
 use Prim.Native.Nat.{ℕ, _+_, _*_}
 use mathlib.Core.List.{List, [], _∷_, flatten}
 use Rattle.fields.specs.Le.{bytes}
-use Rattle.header.specs.Header.{fileTag, fileGuid, directoryTag, directoryGuid, none}
+use Rattle.file_header.specs.FileHeader.{fileTag, fileGuid}
+use Rattle.directory_header.specs.DirectoryHeader.{directoryTag, directoryGuid, none}
 
 -- where the content starts (W6): the length of the head
 abbrev pub headLength : ℕ → ℕ

@@ -6,7 +6,7 @@ use mathlib.Core.List.{List, [], _∷_, _++_, flatten}
 use lib.ListN.{length}
 use lib.Dec.{ltb, leb, eqb}
 use Rattle.chunk.specs.Chunk.{spacingOf}
-use Rattle.header.specs.Header.{none}
+use Rattle.directory_header.specs.DirectoryHeader.{none}
 use Rattle.entries.specs.Stored.{Stored}
 use Rattle.source.specs.Input.{given, inputRight}
 use Rattle.pack.specs.Levels.{level, levelsAbove}

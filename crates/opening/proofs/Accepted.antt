@@ -10,16 +10,16 @@ use lib.ListN.{length}
 use lib.Dec.{eqb}
 use borrow.Author.Tests.{eqb-true, le-leb}
 use Rattle.chunk.specs.Chunk.{Parsed, faultOf}
-use Rattle.header.specs.Header.{headOf}
+use Rattle.header.specs.Header.{headerOf}
 use Rattle.header.specs.declared.Record.{Record}
-use Rattle.header.specs.declared.Head.{Head}
-use Rattle.header.specs.declared.Head.the-variants.{Good}
+use Rattle.header.specs.declared.CheckedHeader.{CheckedHeader}
+use Rattle.header.specs.declared.CheckedHeader.the-variants.{Good}
 use Rattle.header.proofs.Accepted.{accepted}
 use Rattle.tree.specs.Chain.{chainOk}
 use Rattle.tree.specs.Tree.{treeOk}
 use Rattle.tree.specs.Demand.{GoodDirectory}
 use Rattle.book.specs.Book.{directoryOf, shapeOf, bookFits}
-use Rattle.opening.specs.Opened.{refusal, refusalAt, chunksThen, linkedBook, withHead, opened}
+use Rattle.opening.specs.Opened.{refusal, refusalAt, chunksThen, linkedBook, withHeader, opened}
 use Rattle.opening.specs.declared.Opened.{Opened}
 use Rattle.opening.specs.declared.Opened.the-variants.{Book}
 use Rattle.opening.proofs.Links.{chunks-good}
@@ -56,11 +56,11 @@ linked-passed s b r e = go (chainOk (directoryOf s b) (shapeOf b)) (treeOk (dire
     go false y e = let z : _≡_ {A = ℕ} 0 1 = cc in absurd (omega arith)
 
 pub record OpenedBook (s : List ℕ) (r : Record) : Type 0 where
-  pub head : headOf s ≡ Good r
+  pub head : headerOf s ≡ Good r
   pub directory : GoodDirectory (directoryOf s r) (shapeOf r)
   pub fits : bookFits s r ≡ true
 
-pub head-fits : (s : List ℕ) (r : Record) → headOf s ≡ Good r → bookFits s r ≡ true
+pub head-fits : (s : List ℕ) (r : Record) → headerOf s ≡ Good r → bookFits s r ≡ true
 unfolding bookFits
 head-fits s r e =
     let a = accepted s r e in
@@ -68,9 +68,9 @@ head-fits s r e =
 
 pub opened-book : (s : List ℕ) (r : Record) → opened s ≡ Book r → OpenedBook s r
 unfolding opened
-opened-book s r e = go (headOf s) refl e
+opened-book s r e = go (headerOf s) refl e
   where
-    go : (h : Head) → headOf s ≡ h → withHead h (λ b. chunksThen (directoryOf s b) (b .count) 0 (linkedBook s b)) ≡ Book r → OpenedBook s r
+    go : (h : CheckedHeader) → headerOf s ≡ h → withHeader h (λ b. chunksThen (directoryOf s b) (b .count) 0 (linkedBook s b)) ≡ Book r → OpenedBook s r
     go (Good b) q e =
         let c = chunks-passed (directoryOf s b) r (linkedBook s b) (b .count) 0 e in
         let l = linked-passed s b r (c .1) in
@@ -84,4 +84,4 @@ opened-book s r e = go (headOf s) refl e
           };
           fits = head-fits s b q;
         })
-    go (Head.Refused n) q e = let z : _≡_ {A = ℕ} 0 1 = cc in absurd (omega arith)
+    go (CheckedHeader.Refused n) q e = let z : _≡_ {A = ℕ} 0 1 = cc in absurd (omega arith)

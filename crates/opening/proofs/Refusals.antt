@@ -12,17 +12,17 @@ use borrow.Author.Tests.{eqb-true, eqb-false}
 use Rattle.fields.specs.Same.{standsAt}
 use Rattle.entries.specs.declared.Limits.{Limits}
 use Rattle.chunk.specs.Chunk.{Entries, broken, all, Parsed, bad, tagOf, made, entriesAt, rising, quick, headOf, countOf, tailOf, spacingOf, framed, judged, parsedAs, parsed, faultOf}
-use Rattle.header.specs.Header as F
+use Rattle.header.specs.Header.{headerOf}
 use Rattle.header.specs.declared.Record.{Record}
-use Rattle.header.specs.declared.Head.{Head}
-use Rattle.header.specs.declared.Head.the-variants.{Good}
-use Rattle.header.proofs.Checks.{head-refused}
+use Rattle.header.specs.declared.CheckedHeader.{CheckedHeader}
+use Rattle.header.specs.declared.CheckedHeader.the-variants.{Good}
+use Rattle.header.proofs.Checks.{header-refused}
 use Rattle.tree.specs.Shape.{noChunk}
 use Rattle.tree.specs.Chain.{chainOk}
 use Rattle.tree.specs.Tree.{treeOk}
 use Rattle.book.specs.Book.{limitsOf, chunkBytes, directoryOf, shapeOf, refusalOf}
 use Rattle.book.specs.declared.Refusal.{Refusal}
-use Rattle.opening.specs.Opened.{refusal, refusalAt, chunksThen, linkedBook, withHead, opened}
+use Rattle.opening.specs.Opened.{refusal, refusalAt, chunksThen, linkedBook, withHeader, opened}
 use Rattle.opening.specs.Refusals.{ChunksGood, Told, head, chunk, chain, tree}
 use Rattle.opening.specs.declared.Opened.{Opened}
 use Rattle.opening.specs.declared.Opened.the-variants.{Book, Refused}
@@ -104,7 +104,7 @@ passing D (suc n) c x o e = go (eqb (faultOf (D c)) 0) refl (passing D n (c + 1)
 
 -- ---- the whole
 
-links-told : (s : List ℕ) (r : Record) (x : Refusal) → F.headOf s ≡ Good r → ChunksGood s r → linkedBook s r ≡ Refused x → Told s x
+links-told : (s : List ℕ) (r : Record) (x : Refusal) → headerOf s ≡ Good r → ChunksGood s r → linkedBook s r ≡ Refused x → Told s x
 unfolding linkedBook
 links-told s r x h g = go (chainOk (directoryOf s r) (shapeOf r)) refl (treeOk (directoryOf s r) (shapeOf r)) refl
   where
@@ -119,18 +119,18 @@ links-told s r x h g = go (chainOk (directoryOf s r) (shapeOf r)) refl (treeOk (
 
 pub refusal-told : (s : List ℕ) (x : Refusal) → opened s ≡ Refused x → Told s x
 unfolding opened
-refusal-told s x e = go (F.headOf s) refl e
+refusal-told s x e = go (headerOf s) refl e
   where
-    passed : (r : Record) → F.headOf s ≡ Good r → Passing (directoryOf s r) (r .count) 0 x (linkedBook s r) → Told s x
+    passed : (r : Record) → headerOf s ≡ Good r → Passing (directoryOf s r) (r .count) 0 x (linkedBook s r) → Told s x
     passed r h (stops a b q z g) =
         let t = chunk-table s r (x .chunk) (λ y. z (sym q ∙ y)) in
         chunk r h (omega arith) q (λ c l. g c (omega arith) l) (omega arith) (omega arith)
     passed r h (follows q g) = links-told s r x h (λ c l. g c (omega arith) (omega arith)) q
 
-    go : (y : Head) → F.headOf s ≡ y → withHead y (λ r. chunksThen (directoryOf s r) (r .count) 0 (linkedBook s r)) ≡ Refused x → Told s x
+    go : (y : CheckedHeader) → headerOf s ≡ y → withHeader y (λ r. chunksThen (directoryOf s r) (r .count) 0 (linkedBook s r)) ≡ Refused x → Told s x
     go (Good r) h q = passed r h (passing (directoryOf s r) (r .count) 0 x (linkedBook s r) q)
-    go (Head.Refused n) h q =
+    go (CheckedHeader.Refused n) h q =
         let y : record { number = n; chunk = 0xFFFFFFFF } ≡ x = cc in
         let a : n ≡ x .number = ap (λ (w : Refusal). w .number) y in
-        let t = head-refused s n h in
-        head (h ∙ ap Head.Refused a) (omega arith) (omega arith) (sym (ap (λ (w : Refusal). w .chunk) y))
+        let t = header-refused s n h in
+        head (h ∙ ap CheckedHeader.Refused a) (omega arith) (omega arith) (sym (ap (λ (w : Refusal). w .chunk) y))

@@ -5,10 +5,10 @@ use mathlib.Core.Bool.{cond}
 use mathlib.Core.List.{List}
 use lib.Dec.{eqb}
 use Rattle.chunk.specs.Chunk.{Parsed, faultOf}
-use Rattle.header.specs.Header.{headOf}
+use Rattle.header.specs.Header.{headerOf}
 use Rattle.header.specs.declared.Record.{Record}
-use Rattle.header.specs.declared.Head.{Head}
-use Rattle.header.specs.declared.Head.the-variants.{Good}
+use Rattle.header.specs.declared.CheckedHeader.{CheckedHeader}
+use Rattle.header.specs.declared.CheckedHeader.the-variants.{Good}
 use Rattle.tree.specs.Chain.{chainOk}
 use Rattle.tree.specs.Tree.{treeOk}
 use Rattle.book.specs.Book.{directoryOf, shapeOf, refusalOf}
@@ -34,9 +34,9 @@ linkedBook s r =
     (cond (treeOk (directoryOf s r) (shapeOf r)) (Book r) (refusal 14))
     (refusal 13)
 
-abbrev pub withHead : Head → (Record → Opened) → Opened
-withHead (Good r) f = f r
-withHead (Head.Refused n) f = refusal n
+abbrev pub withHeader : CheckedHeader → (Record → Opened) → Opened
+withHeader (Good r) f = f r
+withHeader (CheckedHeader.Refused n) f = refusal n
 
 unfoldable pub opened : List ℕ → Opened
-opened s = withHead (headOf s) (λ r. chunksThen (directoryOf s r) (r .count) 0 (linkedBook s r))
+opened s = withHeader (headerOf s) (λ r. chunksThen (directoryOf s r) (r .count) 0 (linkedBook s r))

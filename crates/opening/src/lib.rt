@@ -15,7 +15,7 @@ use book::Refusal;
 use chunk::Chunk;
 use entries::Item;
 use entries::Limits;
-use header::Head;
+use header::CheckedHeader;
 use header::Record;
 use seek::Hit;
 
@@ -353,8 +353,8 @@ pub fn open(file: &[u8]) -> Opened
     ensures { λ r. ⌜ r ≡ opened (now (file .entry)) ⌝ }
 {
     match header::read(file) {
-        Head::Good(book) => open_chunks(file, book),
-        Head::Refused(number) => Opened::Refused(Refusal {
+        CheckedHeader::Good(book) => open_chunks(file, book),
+        CheckedHeader::Refused(number) => Opened::Refused(Refusal {
             number,
             chunk: 0xFFFF_FFFF,
         }),

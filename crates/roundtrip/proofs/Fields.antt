@@ -9,7 +9,8 @@ use lib.ListN.{length, take, drop}
 use Rattle.fields.specs.Le.{le, bytes}
 use Rattle.fields.specs.Same.{same, standsAt}
 use Rattle.fields.proofs.Le.{le-bytes}
-use Rattle.header.specs.Header.{fileTagged, versionOf, headEnd, timeOf, languageOf, sectionStart, sectionLength, directoryStart, directoryLength, directoryTagged, chunkSize, densityOf, depthOf, rootOf, firstOf, lastOf, countOf}
+use Rattle.file_header.specs.FileHeader.{fileTagged, versionField, headerEnd, timeField, languageField, sectionStart, sectionLength, directoryStart, directoryLength}
+use Rattle.directory_header.specs.DirectoryHeader.{directoryTagged, chunkSize, densityField, depthField, rootField, firstField, lastField, countField}
 use Rattle.layout.specs.Headers.{headLength, fileHeader, sectionZero, directoryHeader}
 
 -- the number whose k bytes stand in s at `at`
@@ -21,10 +22,10 @@ field k v s at h e n = ap (λ (x : List ℕ). le k x at) e ∙ rw n at (le-bytes
 -- time, language, number of chunks
 pub record FileRead (t g n : ℕ) (h : List ℕ) : Type 0 where
   pub tagged : fileTagged h ≡ true
-  pub version : versionOf h ≡ 3
-  pub ends : headEnd h ≡ 0x60
-  pub time : timeOf h ≡ t
-  pub language : languageOf h ≡ g
+  pub version : versionField h ≡ 3
+  pub ends : headerEnd h ≡ 0x60
+  pub time : timeField h ≡ t
+  pub language : languageField h ≡ g
   pub section : sectionStart h ≡ 0x60
   pub section-length : sectionLength h ≡ 24
   pub directory : directoryStart h ≡ 0x78
@@ -60,12 +61,12 @@ section-read size h = field 8 size (sectionZero size) 0x08 (omega arith) refl re
 pub record DirectoryRead (y p r e n : ℕ) (d : List ℕ) : Type 0 where
   pub tagged : directoryTagged d ≡ true
   pub size : chunkSize d ≡ 4096
-  pub density : densityOf d ≡ y
-  pub depth : depthOf d ≡ p
-  pub root : rootOf d ≡ r
-  pub first : firstOf d ≡ 0
-  pub last : lastOf d ≡ e
-  pub count : countOf d ≡ n
+  pub density : densityField d ≡ y
+  pub depth : depthField d ≡ p
+  pub root : rootField d ≡ r
+  pub first : firstField d ≡ 0
+  pub last : lastField d ≡ e
+  pub count : countField d ≡ n
 
 pub directory-read : (g y p r e n : ℕ) → y < 2 ^ 32 → p < 2 ^ 32 → r < 2 ^ 32 → e < 2 ^ 32 → n < 2 ^ 32
     → DirectoryRead y p r e n (directoryHeader g y p r e n)

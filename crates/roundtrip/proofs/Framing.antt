@@ -12,9 +12,14 @@ use borrow.Author.Tests.{le-leb, eq-eqb, ne-eqb}
 use Rattle.fields.specs.Le.{le}
 use Rattle.fields.proofs.Parts.{part-inside}
 use Rattle.chunk.specs.Chunk.{spacingOf}
-use Rattle.header.specs.Header.{longEnough, lengthRight, headerIn, sectionIn, directoryIn, recordFrom, headOf}
-use Rattle.header.specs.declared.Head.the-variants.{Good}
-use Rattle.header.proofs.Checks.{Rules, head-good}
+use Rattle.file_header.specs.FileHeader.{fileFieldsOf}
+use Rattle.file_header.specs.declared.FileFields.{FileFields}
+use Rattle.file_header.proofs.Checks.{file-good, section-good}
+use Rattle.directory_header.specs.DirectoryHeader.{directoryFieldsOf}
+use Rattle.directory_header.proofs.Checks.{directory-good}
+use Rattle.header.specs.Header.{headerIn, sectionIn, directoryIn, recordFrom, headerOf}
+use Rattle.header.specs.declared.CheckedHeader.the-variants.{Good}
+use Rattle.header.proofs.Checks.{header-good}
 use Rattle.book.specs.Book.{chunkBytes}
 use Rattle.entries.specs.Stored.{Stored}
 use Rattle.source.proofs.All.{All}
@@ -46,8 +51,8 @@ root-small p n h =
 -- headers that hold the numbers of a new book give its record
 record-is : (density time language : ℕ) (l : Layout) (h d : List ℕ) → FileRead time language (chunkCount l) h
     → DirectoryRead density (depthOf l) (rootOf (depthOf l) (chunkCount l)) (length (l .leaves) - 1) (chunkCount l) d
-    → recordFrom h d ≡ recordFor density time language l
-unfolding recordFrom recordFor
+    → recordFrom (fileFieldsOf h) (directoryFieldsOf d) ≡ recordFor density time language l
+unfolding recordFor
 record-is density time language l h d f r =
     simp
     (f .version, f .time, f .language, f .directory, f .content, r .density, r .depth, r .root, r .first, r .last, r .count)
@@ -80,14 +85,17 @@ module _ (density time language : ℕ) (l : Layout) (content : List ℕ) (dense 
   few = small-told l small
 
   head : FileRead time language n (headerIn file)
-  head = rw (file-part density time language l content) (file-read time language n t g (omega (arith, few)))
+  head = rw (part-inside file 0 96 (omega (arith, long)), file-part density time language l content) (file-read time language n t g (omega (arith, few)))
 
-  section : le 8 (sectionIn file) 0x08 ≡ headLength n + length content
-  section = rw (head .section, section-part density time language l content) (section-read (headLength n + length content) (omega (arith, few)))
+  abbrev f : FileFields
+  f = fileFieldsOf (headerIn file)
 
-  directory : DirectoryRead density p (rootOf p n) e n (directoryIn file)
+  section : le 8 (sectionIn file f) 0x08 ≡ headLength n + length content
+  section = rw (head .section, part-inside file 0x60 24 (omega (arith, long)), section-part density time language l content) (section-read (headLength n + length content) (omega (arith, few)))
+
+  directory : DirectoryRead density p (rootOf p n) e n (directoryIn file f)
   directory =
-      rw (head .directory, directory-part density time language l content)
+      rw (head .directory, part-inside file 0x78 84 (omega (arith, long)), directory-part density time language l content)
       (directory-read language density p (rootOf p n) e n (omega arith) (omega (arith, few)) (root-small p n (few .0)) (omega (arith, few)) (omega (arith, few)))
 
   -- ---- the checks
@@ -98,23 +106,20 @@ module _ (density time language : ℕ) (l : Layout) (content : List ℕ) (dense 
   tall : ¬ (p ≡ 1) → 1 < n
   tall q = omega (arith, more (omega arith))
 
-  rules : Rules file
-  unfolding longEnough lengthRight
-  rules =
-      record {
+  pub header-read : headerOf file ≡ Good (recordFor density time language l)
+  header-read =
+      header-good file f (directoryFieldsOf (directoryIn file f))
+      (file-good (headerIn file) (length file) (record {
         long = le-leb 96 (length file) (omega (arith, long));
         tagged = head .tagged;
         version = version-pass time language n (headerIn file) head;
         sections = sections-pass time language n (headerIn file) head (length file) (omega (arith, long));
-        size = eq-eqb _ _ (section ∙ sym long);
-        directory = directory .tagged;
-        numbers =
-            rw (head .directory-length)
-            (directory-pass density p e n (directoryIn file) directory dense (omega arith) (few .1) (few .0) (omega arith) flat tall);
-      }
-
-  pub head-read : headOf file ≡ Good (recordFor density time language l)
-  head-read = head-good file rules ∙ ap Good (record-is density time language l (headerIn file) (directoryIn file) head directory)
+      }))
+      (section-good (sectionIn file f) (length file) (eq-eqb _ _ (section ∙ sym long)))
+      (directory-good (directoryIn file f) (f .length) (directory .tagged)
+      (rw (head .directory-length)
+      (directory-pass density p e n (directoryIn file f) directory dense (omega arith) (few .1) (few .0) (omega arith) flat tall)))
+      ∙ ap Good (record-is density time language l (headerIn file) (directoryIn file f) head directory)
 
   -- ---- the chunks
 

@@ -11,9 +11,9 @@ use lib.Dec.{ltb}
 use borrow.Author.Tests.{ltb-true, eq-eqb, ne-eqb}
 use Rattle.entries.specs.declared.Limits.{Limits}
 use Rattle.chunk.specs.Chunk.{parsed, spacingOf}
-use Rattle.header.specs.Header.{headOf}
+use Rattle.header.specs.Header.{headerOf}
 use Rattle.header.specs.declared.Record.{Record}
-use Rattle.header.specs.declared.Head.the-variants.{Good}
+use Rattle.header.specs.declared.CheckedHeader.the-variants.{Good}
 use Rattle.book.specs.Book.{limitsOf, directoryOf}
 use Rattle.entries.specs.Stored.{Stored}
 use Rattle.source.proofs.All.{all-at, All, all-weaken}
@@ -31,7 +31,7 @@ use Rattle.layout.proofs.Cut.{Cut, cut-kept, cut-ordered}
 use Rattle.layout.proofs.Filled.{fit-room, leaves-some, nodes-fit, list-whole}
 use Rattle.layout.proofs.Indexed.{indexed}
 use Rattle.layout.proofs.Places.{length-book}
-use Rattle.roundtrip.proofs.Framing.{head-read, leaf-read, node-read}
+use Rattle.roundtrip.proofs.Framing.{header-read, leaf-read, node-read}
 
 -- ---- the numbers of the chunks before and behind have room in their fields
 
@@ -106,8 +106,8 @@ module _ (density time language : ℕ) (es : List Stored) (gs : List (List Store
   unfolding layoutOver
   index-some h = indexed n 4 0 gs .more h
 
-  pub head-good : headOf file ≡ Good book
-  head-good = head-read density time language l content (cut .dense) t g (cut .small) small some one index-some whole
+  pub head-good : headerOf file ≡ Good book
+  head-good = header-read density time language l content (cut .dense) t g (cut .small) small some one index-some whole
 
   abbrev limits : Limits
   limits = record { density = density; count = chunkCount l; content = length content }

@@ -8,7 +8,8 @@ use native.Mathlib.Omega.{arith}
 use native.Mathlib.Decide.{ℕ-discrete}
 use lib.Dec.{ltb, eqb}
 use borrow.Author.Tests.{le-leb, lt-ltb, eq-eqb, ne-eqb}
-use Rattle.header.specs.Header.{none, versionRight, lengthsRight, placesRight, contentRight, sectionsRight, boundsRight, endsRight, rootRight, directoryRight}
+use Rattle.file_header.specs.FileHeader.{versionRight, lengthsRight, placesRight, contentRight, sectionsRight}
+use Rattle.directory_header.specs.DirectoryHeader.{none, boundsRight, endsRight, rootRight, directoryRight}
 use Rattle.layout.specs.Headers.{headLength}
 use Rattle.layout.specs.Layout.{rootOf}
 use Rattle.roundtrip.proofs.Fields.{FileRead, DirectoryRead}

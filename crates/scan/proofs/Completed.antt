@@ -7,9 +7,9 @@ use mathlib.Core.List.{List}
 use Prim.Native.Nat.{ℕ}
 use native.Mathlib.Omega.{arith}
 use Rattle.names.specs.Names.{askable}
-use Rattle.header.specs.Header.{headOf}
+use Rattle.header.specs.Header.{headerOf}
 use Rattle.header.specs.declared.Record.{Record}
-use Rattle.header.specs.declared.Head.the-variants.{Good}
+use Rattle.header.specs.declared.CheckedHeader.the-variants.{Good}
 use Rattle.tree.specs.Descent.{Outcome, found, absent, refused}
 use Rattle.tree.specs.Demand.{PlainDemand}
 use Rattle.tree.proofs.Reading.{plain-demand}
@@ -53,10 +53,10 @@ scan-complete s book name a f c =
 
 -- the record of its head can be asked, and with it the search finds exactly what listing chunks hold
 pub broken-index : (s : List ℕ) (x : Refusal) → opened s ≡ Opened.Refused x → x .number ≡ 14
-    → (r : Record) × (headOf s ≡ Good r) × ((name : List ℕ) → askable name ≡ true → ChainComplete s r name (scanned s r name))
+    → (r : Record) × (headerOf s ≡ Good r) × ((name : List ℕ) → askable name ≡ true → ChainComplete s r name (scanned s r name))
 broken-index s x e n = go (refusal-told s x e)
   where
-    go : Told s x → (r : Record) × (headOf s ≡ Good r) × ((name : List ℕ) → askable name ≡ true → ChainComplete s r name (scanned s r name))
+    go : Told s x → (r : Record) × (headerOf s ≡ Good r) × ((name : List ℕ) → askable name ≡ true → ChainComplete s r name (scanned s r name))
     go (head h l m k) = absurd (omega arith)
     go (chunk r h l q g a b) = absurd (omega arith)
     go (chain r h g p m k) = absurd (omega arith)

@@ -6,7 +6,7 @@ use Prim.Native.Nat.{ℕ, zero, suc, _+_, _*_, _/_, _%_, _^_, _≤_, _<_}
 use native.Mathlib.Nat.{pow-succ', mul-assoc}
 use native.Mathlib.Omega.{arith}
 use Rattle.fields.specs.Le.{bytes}
-use Rattle.header.specs.Header.{fileTag, fileGuid}
+use Rattle.file_header.specs.FileHeader.{fileTag, fileGuid}
 use Rattle.compose.specs.NewChunk.{wordBytes}
 use Rattle.layout.specs.Headers.{fileHeader, sectionZero, directoryHeader}
 

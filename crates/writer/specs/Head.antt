@@ -6,7 +6,7 @@ use mathlib.Core.Bool.{true, cond}
 use mathlib.Core.List.{List, _++_, flatMap}
 use lib.ListN.{length, take, drop}
 use lib.Dec.{leb}
-use Rattle.header.specs.Header.{none}
+use Rattle.directory_header.specs.DirectoryHeader.{none}
 use Rattle.entries.specs.Stored.{entryBytes}
 use Rattle.source.specs.Input.{given}
 use Rattle.layout.specs.Headers.{headLength}

@@ -1,14 +1,14 @@
 use borrow.Author.Needs.{needs}
 use mathlib.Core.Path.{_≡_, sym, ap, _∙_}
 use denote.Ref.{now}
-use Rattle.header.specs.Header.{headOf}
-use Rattle.header.specs.declared.Head.the-variants.{Good}
+use Rattle.header.specs.Header.{headerOf}
+use Rattle.header.specs.declared.CheckedHeader.the-variants.{Good}
 use Rattle.header.proofs.Accepted.{accepted}
 use Rattle.opening.specs.Opened.{opened}
 use Rattle.opening.proofs.open.Statement.{statement}
 use Rattle.opening.proofs.open.Tie as tie
 
-head-is : (c : tie.After-book) → headOf (now (c .before .before .before .before .args .file)) ≡ Good (c .book .given .0 .0)
+head-is : (c : tie.After-book) → headerOf (now (c .before .before .before .before .args .file)) ≡ Good (c .book .given .0 .0)
 head-is c = sym (c .before .before .read .ensures) ∙ c .book .given .1
 
 read-requires : tie.Need-read-requires
