@@ -13,7 +13,6 @@ TOKEN = re.compile(r'«[^»]*»|"(?:[^"\\]|\\.)*"|[(){}.;,@]|[^\s(){}.;,@"«»]+
 MARKS = ('pub', 'abbrev', 'unfoldable', 'axiom')
 WORDS = set('data record deriving module where use mod pub package using open as unfoldable abbrev axiom unfold unfolding ruleset mutual infix infixl infixr '
             'elim let in do λ ∀ Type → ← ↦ = : | _'.split())
-GENERATED = re.compile(r'(Reads|Tie|Statement|Kinds|Lts(-.*)?)$')
 Token = collections.namedtuple('Token', 'text line column dotted tight')     # behind a dot; that dot right behind a name
 
 
@@ -62,7 +61,8 @@ class Import:
 
 
 class Definition:
-    """`first` to `last` are its lines, from its signature on; `comment` the first line of the comment above. `header` is what stands in the modules around it."""
+    """`first` to `last` are its lines, from its signature on; `comment` the first line of the comment above; `modules` those it stands in; `members` the fields of a
+    record, the constructors of a data type. Its kind is abbrev, unfoldable, axiom, record, data, or law for what has no mark."""
 
     def __init__(self, file, name, kind, public, first, comment, modules):
         self.file, self.name, self.kind, self.public, self.first, self.last, self.comment, self.modules = file, name, kind, public, first, first, comment, modules
@@ -84,13 +84,15 @@ class Definition:
 
 
 class Module:
+    """A `module _ (parameters) where`: what it binds, what its parameters cite, and the module around it."""
+
     def __init__(self, first, indent, bound, above):
         self.first, self.last, self.indent, self.bound, self.above = first, first, indent, bound, above
         self.cited = set()
 
 
 class File:
-    """An .antt file. `place` is its folder in the crate: specs, proofs, or a function's own."""
+    """An .antt file; `folder` is specs or proofs, `module` its path in there, `local` what its imports bring: local name to (module, name)."""
 
     def __init__(self, path, crate):
         self.path, self.crate = path, crate
@@ -309,7 +311,7 @@ def clause(words, rows, line, bound, cited):
         end = words[-1].line
         local = {m[1] for m in (re.match(r'\s*(\S+) :', rows[i - line]) for i in range(begin, end + 1)) if m}
         inside |= local
-        block([' ' * 0 + row for row in rows[begin - line:end - line + 1]], begin, inside, cited)
+        block(rows[begin - line:end - line + 1], begin, inside, cited)
     scan(body, inside, cited, set())
 
 
@@ -515,8 +517,8 @@ class Crates:
                         return self.find(i.module, original, seen + (module,))
         return None
 
-    def meant(self, file, name, by=None, at=None):
-        """The definitions that a cited name of a file may mean; several where several have it."""
+    def meant(self, file, name, by=None):
+        """The definitions that a cited name of a file may mean; several where several have it. A name in a pattern means a constructor or nothing."""
         if by == 'pattern':
             d = self.meant(file, name)
             return [x for x in d if x.kind == 'data']
