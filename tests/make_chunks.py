@@ -366,7 +366,7 @@ def made():
         raise SystemExit('\n'.join(wrong))
     table = ['# Cases of the chunk report', '',
              'Each is one chunk of 4,096 bytes, held to density 2, 3 chunks and a content of 5 bytes; behind them stand 100 bytes more.',
-             'Rows are those of docs/FORMAT.md. Made by tests/make_chunks.py.', '',
+             'Rows are those of docs/FORMAT.md. Made by tests/make_chunks.py, where the answers are set by hand; host/second has to agree.', '',
              '| Case | What it holds | Rows | Answer |', '|---|---|---|---|']
     table += ['| %d | %s | %s | %s |' % (k, what, rows, answer) for k, (what, rows, _, answer) in enumerate(cases, 1)]
     return {'crates/chunk_report/stdin': b''.join(c[2] for c in cases) + bytes(100),

@@ -1,16 +1,22 @@
 //! Questions that no function of the library answers in one call.
 //!
-//!   E                                   the entries of a book that opens, seven numbers each as in FORMAT X9, behind 0; or the refusal
-//!   L                                   what the program `list` writes, its lines with a space between
-//!   D                                   what `diff` writes of the two books
-//!   X                                   the two books compared: the four totals, then each difference, its kind and 14 numbers
-//!   W DENSITY TIME LANGUAGE CONTENT ROOM    the head for these entries, behind 0; or the refusal
-//!   M RECORD PLACES NAME                the chunks that a lookup comes to, one that it refuses too
-//!   A PLACE LENGTH NAME                 1 where FORMAT K24 lets this place be found for the name, else 0
-//!   Q C DENSITY                         the most comparisons in a chunk of c entries
-//!   C DENSITY COUNT CONTENT             one chunk by itself: its refusal; or L, previous, next, or I; then of each entry its own place, that behind it, that of its
-//!                                       name and its length, and the numbers behind the name
-//!   K DENSITY COUNT CONTENT ENTRIES NAMES   what the program `chunk_report` writes of it for these entries and the last one, and for these names
+//!   E                        the entries of a book that opens, seven numbers each (FORMAT X9),
+//!                            behind 0; or the refusal
+//!   L                        what the program `list` writes, with spaces between its lines
+//!   D                        what `diff` writes of the two books
+//!   X                        two books that open, compared: the four totals, then of each
+//!                            difference its kind and 14 numbers
+//!   W DENSITY TIME LANGUAGE CONTENT ROOM
+//!                            the head for these entries, behind 0; or the refusal
+//!   M RECORD PLACES NAME     the chunks that a lookup comes to, one that it refuses too
+//!   A PLACE LENGTH NAME      1 where FORMAT K24 lets this place be found for the name, else 0
+//!   Q C DENSITY              the most comparisons in a chunk of c entries
+//!   C DENSITY COUNT CONTENT  one chunk by itself: its refusal; or L, previous and next, or I; then
+//!                            of each entry its place, the place behind it, place and length of
+//!                            its name, and the numbers behind the name
+//!   K DENSITY COUNT CONTENT ENTRIES NAMES
+//!                            what the program `chunk_report` writes of it for these entries and
+//!                            the last one, and for these names; commas stand between them
 
 use crate::calls::report;
 use crate::words::{code, hexadecimal, line, Words};
