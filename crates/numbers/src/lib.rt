@@ -1,9 +1,11 @@
 // The library's values as numbers for C: a record is its numbers in the order of its fields, a refusal its number plus 256 times its place, and an answer a
 // code, with numbers in lent places. Code 0 comes with what was asked, 255 where there is none; what a code does not come with stays as it was.
 ghost use mathlib.Core.Path.{_≡_};
+ghost use Rattle.listing.specs.Listing.{fiveOf};
 ghost use Rattle.numbers.specs.Numbers.{recordIn, recordNumbers, refusalCode, openCode, openRecord, lookupCode, lookupNumbers, replyCode, replyNumbers, batchCode, cursorIn, cursorNumbers, stepCode, stepCursor, stepNumbers, ownCode, ownNumbers, pageCode, pageNumbers, writeCode, writeNumbers};
 use batch::Batched;
 use book::Refusal;
+use book::Report;
 use header::Record;
 use listing::Cursor;
 use listing::Owned;
@@ -103,6 +105,13 @@ pub fn tell_lookup(answer: Answer, numbers: &mut [u64; 7]) -> u64
     }
 }
 
+// The five numbers of a report.
+fn five(x: Report) -> [u64; 5]
+    ensures { λ n. ⌜ n ≡ fiveOf x ⌝ }
+{
+    [x.place, x.length, x.section, x.offset, x.size]
+}
+
 // What a search that leaves no trail answers: the five numbers of what was found.
 pub fn tell_reply(reply: Reply, numbers: &mut [u64; 5]) -> u64
     ensures code { λ c. ⌜ c ≡ replyCode reply ⌝ }
@@ -110,7 +119,7 @@ pub fn tell_reply(reply: Reply, numbers: &mut [u64; 5]) -> u64
 {
     match reply {
         Reply::Found(x) => {
-            *numbers = [x.place, x.length, x.section, x.offset, x.size];
+            *numbers = five(x);
             0
         }
         Reply::Absent => 255,
@@ -153,8 +162,8 @@ pub fn tell_step(step: Step, cursor: &mut [u64; 2], numbers: &mut [u64; 5]) -> u
 {
     match step {
         Step::Entry(x, next) => {
-            *cursor = [next.chunk, next.entry];
-            *numbers = [x.place, x.length, x.section, x.offset, x.size];
+            *cursor = cursor_numbers(next);
+            *numbers = five(x);
             0
         }
         Step::End(_) => 255,
