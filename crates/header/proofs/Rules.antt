@@ -9,7 +9,8 @@ use lib.Dec.{ltb, leb, eqb}
 use borrow.Author.Tests.{leb-true, ltb-true, eqb-true, eqb-false, not-true}
 use Rattle.fields.specs.Le.{le}
 use Rattle.fields.proofs.Tests.{and-both}
-use Rattle.header.specs.Header.{headEnd, sectionStart, sectionLength, directoryStart, directoryLength, contentStart, longEnough, placed, apart, lengthsRight, placesRight, contentRight, sectionsRight, lengthRight, none, within, chunkSize, densityOf, depthOf, rootOf, firstOf, lastOf, countOf, boundsRight, filled, endsRight, rootRight, directoryRight}
+use Rattle.refusals.specs.Refusals.{noChunk}
+use Rattle.header.specs.Header.{headEnd, sectionStart, sectionLength, directoryStart, directoryLength, contentStart, longEnough, placed, apart, lengthsRight, placesRight, contentRight, sectionsRight, lengthRight, within, chunkSize, densityOf, depthOf, rootOf, firstOf, lastOf, countOf, boundsRight, filled, endsRight, rootRight, directoryRight}
 
 -- ---- refusals 1 and 5
 
@@ -117,7 +118,7 @@ root-told d = go (eqb (depthOf d) 1) refl
     one = eqb (countOf d) 1
 
     other : Bool
-    other = eqb (rootOf d) none || eqb (rootOf d) 0
+    other = eqb (rootOf d) noChunk || eqb (rootOf d) 0
 
     below : Bool
     below = ltb (rootOf d) (countOf d)

@@ -10,6 +10,7 @@ use lib.Dec.{ltb, leb, eqb}
 use Rattle.fields.specs.Le.{le}
 use Rattle.fields.specs.Part.{part}
 use Rattle.fields.specs.Same.{standsAt}
+use Rattle.refusals.specs.Refusals.{noChunk}
 use Rattle.header.specs.declared.Record.{Record}
 use Rattle.header.specs.declared.Head.{Head}
 use Rattle.header.specs.declared.Head.the-variants.{Good, Refused}
@@ -165,10 +166,6 @@ directoryTagged d =
 
 -- ---- refusal 7
 
--- the number that stands for no chunk
-abbrev pub none : ℕ
-none = 0xFFFF_FFFF
-
 -- x is from low to high
 abbrev pub within : ℕ → ℕ → ℕ → Bool
 within low high x = leb low x && leb x high
@@ -189,7 +186,7 @@ endsRight d = ltb (firstOf d) (countOf d) && ltb (lastOf d) (countOf d)
 unfoldable pub rootRight : List ℕ → Bool
 rootRight d =
     cond (eqb (depthOf d) 1)
-    (eqb (countOf d) 1 && (eqb (rootOf d) none || eqb (rootOf d) 0))
+    (eqb (countOf d) 1 && (eqb (rootOf d) noChunk || eqb (rootOf d) 0))
     (not (eqb (countOf d) 1) && ltb (rootOf d) (countOf d))
 
 -- FORMAT R7: D6, D7, D8, D11, D14 to D18
