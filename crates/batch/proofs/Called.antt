@@ -8,9 +8,9 @@ use native.Mathlib.Omega.{arith}
 use lib.ListN.{length}
 use lib.Seq.{sets}
 use borrow.Author.Tests.{le-leb, lt-leb}
+use Rattle.refusals.specs.Refusals.{refusalOf}
+use Rattle.refusals.specs.declared.Refusal.{Refusal}
 use Rattle.header.specs.declared.Record.{Record}
-use Rattle.book.specs.Book.{refusalOf}
-use Rattle.book.specs.declared.Refusal.{Refusal}
 use Rattle.opening.specs.Opened.{opened}
 use Rattle.opening.specs.declared.Opened.the-variants.{Book}
 use Rattle.opening.specs.declared.Opened.{Opened}

@@ -16,12 +16,13 @@ use lib.Dec.{leb}
 use borrow.Author.Tests.{leb-true}
 use Rattle.fields.specs.Part.{part}
 use Rattle.fields.proofs.Tests.{and-both}
+use Rattle.refusals.specs.Refusals.{refusalOf}
+use Rattle.refusals.specs.declared.Refusal.{Refusal}
 use Rattle.names.specs.Names.{askable}
 use Rattle.header.specs.declared.Record.{Record}
 use Rattle.tree.specs.Descent.{Outcome, found, absent, refused}
 use Rattle.tree.proofs.Demanded.{demand-3}
-use Rattle.book.specs.Book.{directoryOf, shapeOf, refusalOf}
-use Rattle.book.specs.declared.Refusal.{Refusal}
+use Rattle.book.specs.Book.{directoryOf, shapeOf}
 use Rattle.opening.specs.Opened.{opened}
 use Rattle.opening.specs.Refusals.{Told}
 use Rattle.opening.specs.declared.Opened.{Opened}

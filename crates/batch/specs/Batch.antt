@@ -8,13 +8,13 @@ use lib.Seq.{sets}
 use lib.Dec.{ltb, leb}
 use Rattle.fields.specs.Le.{bytes}
 use Rattle.fields.specs.Part.{inside, part}
+use Rattle.refusals.specs.Refusals.{refusalOf}
+use Rattle.refusals.specs.declared.Refusal.{Refusal}
 use Rattle.encint.specs.Encint.{encintAt}
 use Rattle.encint.specs.declared.Number.{Number}
 use Rattle.encint.specs.declared.Number.the-variants.{Value}
 use Rattle.entries.specs.Entry.{withNumber}
 use Rattle.header.specs.declared.Record.{Record}
-use Rattle.book.specs.Book.{refusalOf}
-use Rattle.book.specs.declared.Refusal.{Refusal}
 use Rattle.opening.specs.Opened.{opened}
 use Rattle.opening.specs.declared.Opened.{Opened}
 use Rattle.opening.specs.declared.Opened.the-variants.{Book}

@@ -5,8 +5,8 @@ use mathlib.Core.List.{List, flatMap}
 use Prim.Native.Nat.{ℕ, _+_}
 use lib.ListN.{length}
 use lib.Seq.{sets}
+use Rattle.refusals.specs.Refusals.{refusalOf}
 use Rattle.header.specs.declared.Record.{Record}
-use Rattle.book.specs.Book.{refusalOf}
 use Rattle.fetch.specs.Fetch.{fetched}
 use Rattle.batch.specs.Batch.{Names, namesIn, resultOf, answerable}
 use Rattle.batch.specs.declared.Batched.{Batched}

@@ -7,11 +7,11 @@ ghost use lib.Seq.{sets};
 ghost use Rattle.fields.specs.Le.{bytes};
 ghost use Rattle.batch.specs.Batch.{askedAt, namesIn, resultOf, batchOf, answersIn};
 ghost use Rattle.batch.specs.Step.{countedAs, resultsBy, batchIn, answersBy};
-use book::Refusal;
-use opening::Opened;
 use encint::Number;
 use header::Record;
 use lookup::Reply;
+use opening::Opened;
+use refusals::Refusal;
 
 // What the call answers.
 pub enum Batched {
@@ -105,10 +105,10 @@ fn batch_in(file: &[u8], book: Record, names: &[u8], answers: &mut [u8]) -> Batc
     ensures answers { λ _. ⌜ now (answers .exit) ≡ answersBy (now (file .entry)) book (now (names .entry)) (now (answers .entry)) ⌝ }
 {
     let Counted::All(n) = count_names(names) else {
-        return Batched::Refused(book::refuse(22));
+        return Batched::Refused(refusals::refuse(22));
     };
     if answers.len() / 32 < n {
-        return Batched::Refused(book::refuse(22));
+        return Batched::Refused(refusals::refuse(22));
     }
     put_results(file, book, names, answers);
     Batched::Answered

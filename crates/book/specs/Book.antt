@@ -18,8 +18,7 @@ use Rattle.chunk.specs.declared.Chunk.{Chunk}
 use Rattle.chunk.specs.declared.Chunk.the-variants.{Refused}
 use Rattle.directory_header.specs.DirectoryHeader.{within}
 use Rattle.header.specs.declared.Record.{Record}
-use Rattle.tree.specs.Shape.{Shape, noChunk}
-use Rattle.book.specs.declared.Refusal.{Refusal}
+use Rattle.tree.specs.Shape.{Shape}
 use Rattle.book.specs.declared.Report.{Report}
 use Rattle.book.specs.declared.Own.{Own}
 
@@ -50,10 +49,6 @@ bookFits s r = leb (r .density) 7 && (within 1 5 (r .depth) && (within 1 4096 (r
 -- what chunk number c leads to: a chunk below the count, or refusal 17 (K13)
 unfoldable pub metChunk : List ℕ → Record → ℕ → Chunk
 metChunk s r c = cond (ltb c (r .count)) (chunkOf (directoryOf s r c)) (Refused 17)
-
--- a refusal that belongs to no chunk (RO7)
-abbrev pub refusalOf : ℕ → Refusal
-refusalOf n = record { number = n; chunk = noChunk }
 
 -- the five numbers of an entry of chunk c (K6): its name's place in the file and length; section, offset, length
 unfoldable pub reportOf : Record → ℕ → Entry → Report

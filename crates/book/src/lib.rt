@@ -3,7 +3,7 @@ ghost use mathlib.Core.Path.{_≡_};
 ghost use mathlib.Core.Bool.{cond};
 ghost use Prim.Native.Nat.{_+_, _-_, _/_};
 ghost use lib.Dec.{leb};
-ghost use Rattle.book.specs.Book.{limitsOf, chunkBytes, chunkPlace, shapeOf, bookFits, metChunk, refusalOf, reportAt, ownAt};
+ghost use Rattle.book.specs.Book.{limitsOf, chunkBytes, chunkPlace, shapeOf, bookFits, metChunk, reportAt, ownAt};
 ghost use Rattle.book.specs.Search.{findingIn, childIn, searchIn};
 ghost use Rattle.tree.specs.Tree.{top};
 use chunk::Chunk;
@@ -12,12 +12,6 @@ use entries::Place;
 use header::Record;
 use seek::CountedChild;
 use seek::Hit;
-
-// A refusal's number, and the chunk that it belongs to: FFFFFFFF where it belongs to none.
-pub struct Refusal {
-    pub number: u8,
-    pub chunk: u32,
-}
 
 // The five numbers of an entry: where its name stands in the file, the name's length, section, offset, length.
 pub struct Report {
@@ -46,16 +40,6 @@ pub enum Search {
     Found(u32, Report),
     Next(u32, u32),
     Barred,
-}
-
-// A refusal that belongs to no chunk.
-pub fn refuse(number: u8) -> Refusal
-    ensures { λ r. ⌜ r ≡ refusalOf number ⌝ }
-{
-    Refusal {
-        number: number,
-        chunk: tree::no_chunk(),
-    }
 }
 
 // Whether a record can be asked; it may be made up.

@@ -7,8 +7,8 @@ use Prim.Native.Nat.{ℕ, zero, suc, _<_}
 use native.Mathlib.Omega.{arith}
 use lib.ListN.{length, take}
 use lib.Seq.{take-nil}
+use Rattle.refusals.specs.declared.Refusal.{Refusal}
 use Rattle.header.specs.declared.Record.{Record}
-use Rattle.book.specs.declared.Refusal.{Refusal}
 use Rattle.walk.specs.Walk.{weight, walkStart}
 use Rattle.walk.specs.Exact.{readingOf}
 use Rattle.walk.proofs.Standing.{walk-exact}

@@ -5,6 +5,7 @@ use mathlib.Core.Bool.{Bool, true, false, cond}
 use mathlib.Core.List.{List, [], _∷_, map}
 use Prim.Native.Nat.{ℕ, suc, _-_, _<_}
 use native.Mathlib.Omega.{arith}
+use Rattle.refusals.specs.Refusals.{refusalOf}
 use Rattle.names.specs.Names.{compared}
 use Rattle.names.specs.declared.Order.{Order}
 use Rattle.names.specs.declared.Order.the-variants.{Less, Equal, Greater}
@@ -12,7 +13,6 @@ use Rattle.entries.specs.declared.Place.{Place}
 use Rattle.seek.specs.Seek.{byOrder}
 use Rattle.header.specs.declared.Record.{Record}
 use Rattle.tree.specs.Reading.{Held}
-use Rattle.book.specs.Book.{refusalOf}
 use Rattle.walk.specs.Walk.{afterOf, comingAt, weight}
 use Rattle.walk.specs.Exact.{Comes, Reads}
 use Rattle.walk.specs.declared.Walk.{Walk}

@@ -5,10 +5,10 @@ use mathlib.Core.Logic.{_⊎_}
 use mathlib.Core.Bool.{Bool, true, false, cond}
 use mathlib.Core.List.{List}
 use Prim.Native.Nat.{ℕ, zero, suc}
+use Rattle.refusals.specs.Refusals.{refusalOf}
+use Rattle.refusals.specs.declared.Refusal.{Refusal}
 use Rattle.entries.specs.declared.Place.{Place}
 use Rattle.header.specs.declared.Record.{Record}
-use Rattle.book.specs.declared.Refusal.{Refusal}
-use Rattle.book.specs.Book.{refusalOf}
 use Rattle.walk.specs.Walk.{afterOf, weight}
 use Rattle.walk.specs.declared.Walk.{Walk}
 use Rattle.compare.specs.Course.{oneSame, oneChanged}

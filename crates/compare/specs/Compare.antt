@@ -4,11 +4,12 @@ use Prim.Native.Nat.{ℕ, zero, suc, _+_, _<_}
 use mathlib.Core.Bool.{Bool, cond, _&&_}
 use mathlib.Core.List.{List}
 use lib.Dec.{eqb}
+use Rattle.refusals.specs.Refusals.{refusalOf}
 use Rattle.names.specs.Names.{compared}
 use Rattle.entries.specs.declared.Place.{Place}
 use Rattle.seek.specs.Seek.{byOrder}
 use Rattle.header.specs.declared.Record.{Record}
-use Rattle.book.specs.Book.{reportAt, ownAt, refusalOf}
+use Rattle.book.specs.Book.{reportAt, ownAt}
 use Rattle.walk.specs.Walk.{afterOf, comingAt, nameHere, weight, walkStart}
 use Rattle.walk.specs.declared.Walk.{Walk}
 use Rattle.walk.specs.declared.Coming.{Coming}

@@ -6,13 +6,13 @@ use mathlib.Core.Logic.{_↔_, _≢_}
 use mathlib.Core.Bool.{true, false}
 use mathlib.Core.List.{List, [], _∷_, _++_, map}
 use lib.ListN.{length, take}
+use Rattle.refusals.specs.declared.Refusal.{Refusal}
 use Rattle.names.specs.Names.{below, matches}
 use Rattle.header.specs.declared.Record.{Record}
 use Rattle.tree.specs.Lists.{In, Each}
 use Rattle.tree.specs.Chain.{chain, chainEntries}
 use Rattle.tree.specs.Reading.{Held, Reading, heldOf}
 use Rattle.book.specs.Book.{directoryOf, shapeOf, reportOf, ownOf}
-use Rattle.book.specs.declared.Refusal.{Refusal}
 use Rattle.walk.specs.Exact.{readingOf}
 use Rattle.compare.specs.Course.{Pair, left, right, both, Ending, done, first-stops, second-stops, heldName, course, pairs, ending, pairName, firsts, seconds, isSame, differences, totalsFrom, noTotals}
 use Rattle.compare.specs.Compare.{refusedBy, compareStep}

@@ -4,8 +4,8 @@ ghost use mathlib.Core.Bool.{true};
 ghost use mathlib.Core.Logic.{_≢_};
 ghost use mathlib.Core.List.{List};
 ghost use Prim.Native.Nat.{ℕ};
+ghost use Rattle.refusals.specs.declared.Refusal.{Refusal};
 ghost use Rattle.book.specs.Book.{bookFits};
-ghost use Rattle.book.specs.declared.Refusal.{Refusal};
 ghost use Rattle.opening.specs.Opened.{opened};
 ghost use Rattle.opening.specs.declared.Opened.the-variants.{Book};
 ghost use Rattle.compare.specs.Course.{oneMore, oneFirst, oneSecond, oneSame, oneChanged};
@@ -14,12 +14,12 @@ ghost use Rattle.compare.specs.Compared.{afterSteps, ComparisonExact, Bo
 ghost use Rattle.compare.specs.declared.Step.the-variants.{Refused};
 ghost use Rattle.compare.specs.Passing.{SameTold, Passed};
 use book::Own;
-use book::Refusal;
 use book::Report;
 use entries::Item;
 use entries::Place;
 use header::Record;
 use names::Order;
+use refusals::Refusal;
 use walk::Coming;
 use walk::Walk;
 
@@ -141,7 +141,7 @@ fn same_at(x: Place, y: Place) -> bool
 fn refused_by(book: u8) -> Step
     ensures { λ r. ⌜ r ≡ refusedBy book ⌝ }
 {
-    Step::Refused(book, book::refuse(17))
+    Step::Refused(book, refusals::refuse(17))
 }
 
 // A name that is only in the first book.

@@ -5,7 +5,7 @@ use mathlib.Core.Bool.{cond}
 use mathlib.Core.List.{List}
 use lib.ListN.{length}
 use lib.Dec.{ltb}
-use Rattle.book.specs.Book.{refusalOf}
+use Rattle.refusals.specs.Refusals.{refusalOf}
 use Rattle.opening.specs.Opened.{opened}
 use Rattle.opening.specs.declared.Opened.{Opened}
 use Rattle.opening.specs.declared.Opened.the-variants.{Refused}

@@ -8,8 +8,8 @@ ghost use Rattle.diff.specs.Steps.{nextAfter};
 use compare::Cursor;
 use compare::Shown;
 use compare::Step;
-use opening::Opened;
 use header::Record;
+use opening::Opened;
 
 // Where the comparison goes on behind a step: at a cursor, or nowhere.
 enum Next {
@@ -47,7 +47,7 @@ fn open_file(file: &[u8]) -> Opened
     ensures { λ r. ⌜ r ≡ openedFile (now (file .entry)) ⌝ }
 {
     if 30000 < file.len() {
-        return Opened::Refused(book::refuse(29));
+        return Opened::Refused(refusals::refuse(29));
     }
     opening::open(file)
 }

@@ -7,7 +7,8 @@ use Prim.Native.Nat.{ℕ, _+_, _*_, _≤_, _<_}
 use lib.Dec.{ltb, leb, eqb}
 use borrow.Author.Tests.{leb-true, ltb-true, eqb-true, eqb-false, not-true}
 use Rattle.fields.proofs.Tests.{and-both}
-use Rattle.directory_header.specs.DirectoryHeader.{none, within, chunkSize, densityField, depthField, rootField, firstField, lastField, countField, boundsRight, filled, endsRight, rootRight, directoryRight}
+use Rattle.refusals.specs.Refusals.{noChunk}
+use Rattle.directory_header.specs.DirectoryHeader.{within, chunkSize, densityField, depthField, rootField, firstField, lastField, countField, boundsRight, filled, endsRight, rootRight, directoryRight}
 
 -- ---- refusal 7
 
@@ -61,7 +62,7 @@ root-told d = go (eqb (depthField d) 1) refl
     one = eqb (countField d) 1
 
     other : Bool
-    other = eqb (rootField d) none || eqb (rootField d) 0
+    other = eqb (rootField d) noChunk || eqb (rootField d) 0
 
     below : Bool
     below = ltb (rootField d) (countField d)

@@ -6,6 +6,7 @@ use mathlib.Core.Bool.{Bool, cond, not, _&&_, _||_}
 use lib.Dec.{ltb, leb, eqb}
 use Rattle.fields.specs.Le.{le}
 use Rattle.fields.specs.Same.{standsAt}
+use Rattle.refusals.specs.Refusals.{noChunk}
 use Rattle.directory_header.specs.declared.DirectoryFields.{DirectoryFields}
 use Rattle.directory_header.specs.declared.CheckedDirectoryHeader.{CheckedDirectoryHeader}
 use Rattle.directory_header.specs.declared.CheckedDirectoryHeader.the-variants.{Good, Refused}
@@ -61,10 +62,6 @@ directoryTagged d =
 
 -- ---- refusal 7
 
--- the number that stands for no chunk
-abbrev pub none : ℕ
-none = 0xFFFF_FFFF
-
 -- x is from low to high
 abbrev pub within : ℕ → ℕ → ℕ → Bool
 within low high x = leb low x && leb x high
@@ -85,7 +82,7 @@ endsRight d = ltb (firstField d) (countField d) && ltb (lastField d) (countField
 unfoldable pub rootRight : List ℕ → Bool
 rootRight d =
     cond (eqb (depthField d) 1)
-    (eqb (countField d) 1 && (eqb (rootField d) none || eqb (rootField d) 0))
+    (eqb (countField d) 1 && (eqb (rootField d) noChunk || eqb (rootField d) 0))
     (not (eqb (countField d) 1) && ltb (rootField d) (countField d))
 
 -- FORMAT R7: D6, D7, D8, D11, D14 to D18

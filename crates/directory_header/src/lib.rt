@@ -142,7 +142,7 @@ fn root_right(d: &[u8]) -> bool
         if n != 1 {
             return false;
         }
-        if top == 0xFFFF_FFFF {
+        if top == refusals::no_chunk() {
             return true;
         }
         return top == 0;

@@ -7,6 +7,8 @@ use mathlib.Core.Bool.{Bool, true, false, cond}
 use mathlib.Core.List.{List}
 use Prim.Native.Nat.{ℕ, zero, suc}
 use native.Mathlib.Omega.{arith}
+use Rattle.refusals.specs.Refusals.{refusalOf}
+use Rattle.refusals.specs.declared.Refusal.{Refusal}
 use Rattle.names.specs.Names.{askable, compared}
 use Rattle.seek.specs.Seek.{Sought, soughtOf, findIn, chooseIn}
 use Rattle.seek.specs.declared.Hit.{Hit}
@@ -15,9 +17,8 @@ use Rattle.header.specs.declared.Record.{Record}
 use Rattle.tree.specs.Tree.{top}
 use Rattle.tree.specs.Descent.{Outcome, found, absent, refused, answer, onward}
 use Rattle.tree.specs.Fetch.{fetchFrom}
-use Rattle.book.specs.Book.{limitsOf, chunkBytes, shapeOf, bookFits, refusalOf, reportOf}
+use Rattle.book.specs.Book.{limitsOf, chunkBytes, shapeOf, bookFits, reportOf}
 use Rattle.book.specs.Search.{Stands}
-use Rattle.book.specs.declared.Refusal.{Refusal}
 use Rattle.book.proofs.Searching.{found-report, found-stands}
 use Rattle.lookup.specs.Reply.{replyTo, repliedTo}
 use Rattle.lookup.specs.declared.Reply.the-variants.{Found, Refused}

@@ -45,10 +45,10 @@ pub fn fetch(file: &[u8], book: Record, name: &[u8]) -> Reply
     ensures stands { λ r. ⌜ FoundStands (now (file .entry)) (now (name .entry)) r ⌝ }
 {
     if !names::is_askable(name) {
-        return Reply::Refused(book::refuse(15));
+        return Reply::Refused(refusals::refuse(15));
     }
     if !book::fits(file, book) {
-        return Reply::Refused(book::refuse(17));
+        return Reply::Refused(refusals::refuse(17));
     }
     fetch_from(file, book, name, book.depth, book::top_chunk(book))
 }

@@ -5,8 +5,8 @@ ghost use Prim.Native.Nat.{_+_, _*_, _<_, _≤_};
 ghost use lib.ListN.{length};
 ghost use lib.Seq.{sets};
 ghost use Rattle.frames.specs.Frame.{hexDigit, hexOf, refusalBytes};
-use book::Refusal;
 use libc::STDOUT_FILENO;
+use refusals::Refusal;
 
 // The digit of a number below 16.
 fn digit(n: u8) -> u8

@@ -4,7 +4,7 @@ use Prim.Native.Nat.{ℕ, _+_, _*_}
 use mathlib.Core.List.{List, [], _∷_, flatten}
 use Rattle.fields.specs.Le.{bytes}
 use Rattle.file_header.specs.FileHeader.{fileTag, fileGuid}
-use Rattle.directory_header.specs.DirectoryHeader.{directoryTag, directoryGuid, none}
+use Rattle.directory_header.specs.DirectoryHeader.{directoryTag, directoryGuid}
 
 -- where the content starts (W6): the length of the head
 abbrev pub headLength : ℕ → ℕ
@@ -26,6 +26,10 @@ fileHeader time language count =
 unfoldable pub sectionZero : ℕ → List ℕ
 sectionZero size = flatten (bytes 4 0x1FE ∷ bytes 4 0 ∷ bytes 8 size ∷ bytes 4 0 ∷ bytes 4 0 ∷ [])
 
+-- the unknown words of the directory's header but the one at 0C (W7)
+abbrev pub unknownWord : ℕ
+unknownWord = 0xFFFF_FFFF
+
 -- 84 bytes
 unfoldable pub directoryHeader : (language density depth root last count : ℕ) → List ℕ
 directoryHeader language density depth root last count =
@@ -33,7 +37,7 @@ directoryHeader language density depth root last count =
     -- 00: tag, version, length, a word, chunk size, density
     directoryTag ∷ bytes 4 1 ∷ bytes 4 0x54 ∷ bytes 4 0x0A ∷ bytes 4 4096 ∷ bytes 4 density
     -- 18: depth, root, first and last listing chunk, a word, chunk count, language
-    ∷ bytes 4 depth ∷ bytes 4 root ∷ bytes 4 0 ∷ bytes 4 last ∷ bytes 4 none ∷ bytes 4 count ∷ bytes 4 language
+    ∷ bytes 4 depth ∷ bytes 4 root ∷ bytes 4 0 ∷ bytes 4 last ∷ bytes 4 unknownWord ∷ bytes 4 count ∷ bytes 4 language
     -- 34: GUID, length, three words
-    ∷ directoryGuid ∷ bytes 4 0x54 ∷ bytes 4 none ∷ bytes 4 none ∷ bytes 4 none
+    ∷ directoryGuid ∷ bytes 4 0x54 ∷ bytes 4 unknownWord ∷ bytes 4 unknownWord ∷ bytes 4 unknownWord
     ∷ [])

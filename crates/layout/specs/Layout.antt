@@ -5,8 +5,8 @@ use mathlib.Core.Bool.{Bool, true, false, cond, _&&_}
 use mathlib.Core.List.{List, [], _∷_, _++_, flatten}
 use lib.ListN.{length}
 use lib.Dec.{ltb, leb, eqb}
+use Rattle.refusals.specs.Refusals.{noChunk}
 use Rattle.chunk.specs.Chunk.{spacingOf}
-use Rattle.directory_header.specs.DirectoryHeader.{none}
 use Rattle.entries.specs.Stored.{Stored}
 use Rattle.source.specs.Input.{given, inputRight}
 use Rattle.pack.specs.Levels.{level, levelsAbove}
@@ -47,10 +47,10 @@ smallEnough l = leb (chunkCount l) 4096 && leb (depthOf l) 5
 
 -- the previous and the next of m listing chunks (W9)
 unfoldable pub prevOf : ℕ → ℕ
-prevOf c = cond (eqb c 0) none (c - 1)
+prevOf c = cond (eqb c 0) noChunk (c - 1)
 
 unfoldable pub nextOf : ℕ → ℕ → ℕ
-nextOf m c = cond (ltb (c + 1) m) (c + 1) none
+nextOf m c = cond (ltb (c + 1) m) (c + 1) noChunk
 
 -- chunks of a kind, numbered from c on, of which the first m are the listing chunks
 unfoldable pub chunksOf : Bool → ℕ → ℕ → ℕ → List (List Stored) → List (List ℕ)
@@ -66,7 +66,7 @@ chunkList n l =
 
 -- the root is the last chunk; at depth 1 there is none (W11, W12)
 unfoldable pub rootOf : ℕ → ℕ → ℕ
-rootOf depth count = cond (eqb depth 1) none (count - 1)
+rootOf depth count = cond (eqb depth 1) noChunk (count - 1)
 
 -- headers and chunks; content is the content's length
 unfoldable pub headBytes : (density time language content : ℕ) → Layout → List ℕ

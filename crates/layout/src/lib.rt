@@ -8,7 +8,7 @@ pub fn previous(c: u32) -> u32
     ensures { λ r. ⌜ r ≡ prevOf c ⌝ }
 {
     if c == 0 {
-        return 0xFFFF_FFFF;
+        return refusals::no_chunk();
     }
     c - 1
 }
@@ -18,12 +18,12 @@ pub fn following(m: u32, c: u32) -> u32
     ensures { λ r. ⌜ r ≡ nextOf m c ⌝ }
 {
     if m <= c {
-        return 0xFFFF_FFFF;
+        return refusals::no_chunk();
     }
     if c + 1 < m {
         return c + 1;
     }
-    0xFFFF_FFFF
+    refusals::no_chunk()
 }
 
 // The root of an index of that depth, where there are `count` chunks.
@@ -31,7 +31,7 @@ pub fn root_chunk(depth: u32, count: u32) -> u32
     ensures { λ r. ⌜ r ≡ rootOf depth count ⌝ }
 {
     if depth == 1 {
-        return 0xFFFF_FFFF;
+        return refusals::no_chunk();
     }
     if count == 0 {
         return 0;

@@ -6,8 +6,9 @@ use mathlib.Core.List.{List, flatMap, append-nil}
 use Prim.Native.Nat.{ℕ, zero, suc}
 use borrow.Author.Tests.{eqb-true}
 use Rattle.fields.proofs.Tests.{never}
+use Rattle.refusals.specs.Refusals.{noChunk}
 use Rattle.header.specs.declared.Record.{Record}
-use Rattle.tree.specs.Shape.{noChunk, nextOf}
+use Rattle.tree.specs.Shape.{nextOf}
 use Rattle.tree.specs.Chain.{chainFrom, chain, linked}
 use Rattle.tree.proofs.Linked.{onLink, linked-chunk, chain-linked, good-filled, listed}
 use Rattle.book.specs.Book.{directoryOf, shapeOf, bookFits}

@@ -8,13 +8,14 @@ use Prim.Native.Nat.{ℕ, _<_}
 use lib.ListN.{getD}
 use lib.Dec.{eqb}
 use borrow.Author.Tests.{eqb-true, eqb-false}
+use Rattle.refusals.specs.Refusals.{noChunk}
 use Rattle.entries.specs.declared.Place.{Place}
 use Rattle.seek.specs.Seek.{nthIn}
 use Rattle.chunk.specs.Chunk.{Parsed, entryOf}
 use Rattle.seek.specs.declared.Hit.{Hit}
 use Rattle.seek.specs.declared.Hit.the-variants.{At as HitAt, Nothing as HitNothing}
 use Rattle.header.specs.declared.Record.{Record}
-use Rattle.tree.specs.Shape.{noChunk, isListing, listingChunk}
+use Rattle.tree.specs.Shape.{isListing, listingChunk}
 use Rattle.tree.proofs.Chunks.{listing-chunk}
 use Rattle.book.specs.Book.{limitsOf, chunkBytes, directoryOf, shapeOf, bookFits, reportOf, ownOf, ownAt}
 use Rattle.book.proofs.Read.{read-owned, own-padded}

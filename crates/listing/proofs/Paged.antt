@@ -9,17 +9,18 @@ use native.Mathlib.Omega.{arith}
 use lib.ListN.{length, length-map}
 use lib.Seq.{sets}
 use Rattle.fields.proofs.Tests.{and-both}
+use Rattle.refusals.specs.Refusals.{refusalOf}
 use Rattle.chunk.specs.Chunk.{entriesIn}
 use Rattle.header.specs.declared.Record.{Record}
 use Rattle.tree.specs.Shape.{nextOf}
 use Rattle.book.specs.Book.{directoryOf, bookFits, reportOf}
-use Rattle.listing.specs.Listing.{refusal, cursorAt, numbersOf, reportsIn, canList, hasRoom, pageOf, pageIn}
+use Rattle.listing.specs.Listing.{cursorAt, numbersOf, reportsIn, canList, hasRoom, pageOf, pageIn}
 use Rattle.listing.specs.Whole.{stepsFrom, PageSteps}
 use Rattle.listing.specs.declared.Page.the-variants.{Entries, Short, Refused}
 use Rattle.listing.proofs.Run.{run-steps, run-chunk, cursor-inside}
 
 -- what a page with entries tells
-answered : (a b : Bool) (k m n next : ℕ) → cond a (cond b (Entries k m) Short) (Refused refusal) ≡ Entries n next
+answered : (a b : Bool) (k m n next : ℕ) → cond a (cond b (Entries k m) Short) (Refused (refusalOf 17)) ≡ Entries n next
     → (a ≡ true) × (b ≡ true) × (k ≡ n) × (m ≡ next)
 answered true true k m n next e = (refl, refl, (let z : k ≡ n = cc in z), (let z : m ≡ next = cc in z))
 answered true false k m n next e = absurd (let z : _≡_ {A = ℕ} 0 1 = cc in omega arith)

@@ -8,12 +8,13 @@ use native.Mathlib.Omega.{arith}
 use lib.ListN.{length}
 use lib.Seq.{sets}
 use borrow.Author.Tests.{le-leb, lt-leb}
+use Rattle.refusals.specs.Refusals.{refusalOf}
 use Rattle.chunk.specs.Chunk.{countOf, entriesIn}
 use Rattle.header.specs.declared.Record.{Record}
 use Rattle.tree.specs.Shape.{nextOf, listingChunk}
 use Rattle.tree.proofs.Chunks.{listing-chunk}
 use Rattle.book.specs.Book.{chunkBytes, directoryOf, shapeOf, bookFits}
-use Rattle.listing.specs.Listing.{refusal, numbersOf, reportsIn, canList, hasRoom, pageOf, pageIn}
+use Rattle.listing.specs.Listing.{numbersOf, reportsIn, canList, hasRoom, pageOf, pageIn}
 use Rattle.listing.specs.declared.Page.{Page}
 use Rattle.listing.specs.declared.Page.the-variants.{Entries, Short, Refused}
 use Rattle.book.proofs.Read.{entries-length}
@@ -23,12 +24,12 @@ module _ (s : List ℕ) (book : Record) (c : ℕ) (t : List ℕ) where
   abbrev pub Answers : Page → List ℕ → Type 0
   Answers r u = (r ≡ pageOf s book c (length t)) × (u ≡ pageIn s book c t)
 
-  pub page-unfit : bookFits s book ≡ false → Answers (Refused refusal) t
+  pub page-unfit : bookFits s book ≡ false → Answers (Refused (refusalOf 17)) t
   unfolding pageOf pageIn canList
   page-unfit f = (rw f, rw f)
 
   module _ (f : bookFits s book ≡ true) where
-    pub page-other : listingChunk (directoryOf s book) (shapeOf book) c ≡ false → Answers (Refused refusal) t
+    pub page-other : listingChunk (directoryOf s book) (shapeOf book) c ≡ false → Answers (Refused (refusalOf 17)) t
     unfolding pageOf pageIn canList
     page-other h = (rw (f, h), rw (f, h))
 

@@ -7,15 +7,16 @@ use Prim.Native.Nat.{ℕ, _+_, _≤_, _<_}
 use native.Mathlib.Omega.{arith}
 use lib.ListN.{length}
 use borrow.Author.Tests.{lt-ltb, le-ltb, eq-eqb, ne-eqb}
+use Rattle.refusals.specs.Refusals.{noChunk, refusalOf}
 use Rattle.entries.specs.declared.Place.{Place}
 use Rattle.chunk.specs.Chunk.{Entry, Parsed, entryOf, countOf, entriesIn}
 use Rattle.seek.specs.Seek.{absent, found, nth, nthIn}
 use Rattle.seek.specs.declared.Hit.{Hit}
 use Rattle.seek.specs.declared.Hit.the-variants.{At, Nothing}
 use Rattle.header.specs.declared.Record.{Record}
-use Rattle.tree.specs.Shape.{noChunk, isListing, nextOf, listingChunk}
+use Rattle.tree.specs.Shape.{isListing, nextOf, listingChunk}
 use Rattle.book.specs.Book.{limitsOf, chunkBytes, directoryOf, shapeOf, bookFits, reportOf, reportAt}
-use Rattle.listing.specs.Listing.{refusal, cursorAt, movedOn, entryStep, stepped}
+use Rattle.listing.specs.Listing.{cursorAt, movedOn, entryStep, stepped}
 use Rattle.listing.specs.declared.Cursor.{Cursor}
 use Rattle.listing.specs.declared.Step.the-variants.{Entry as Reported, End, Refused}
 use Rattle.tree.proofs.Chunks.{listing-chunk}
@@ -25,7 +26,7 @@ use Rattle.listing.proofs.Read.{nth-hit, nth-nothing}
 
 -- at a cursor in a chunk that is p
 module _ (book : Record) (p : Parsed) (at : Cursor) where
-  pub entry-absent : nth (at .entry) (entriesIn p) ≡ absent → entryStep book p at ≡ Refused refusal
+  pub entry-absent : nth (at .entry) (entriesIn p) ≡ absent → entryStep book p at ≡ Refused (refusalOf 17)
   unfolding entryStep
   entry-absent h = rw h
 
@@ -46,7 +47,7 @@ module _ (s : List ℕ) (book : Record) (at : Cursor) (is : isListing (directory
   abbrev hit : Hit
   hit = nthIn (limitsOf s book) true bytes (at .entry)
 
-  pub read-absent : hit ≡ Nothing → entryStep book (directoryOf s book (at .chunk)) at ≡ Refused refusal
+  pub read-absent : hit ≡ Nothing → entryStep book (directoryOf s book (at .chunk)) at ≡ Refused (refusalOf 17)
   read-absent h = entry-absent book (directoryOf s book (at .chunk)) at (nth-nothing s book (at .chunk) is (at .entry) h)
 
   module _ (e : Place) (h : hit ≡ At e) where
@@ -70,7 +71,7 @@ module _ (s : List ℕ) (book : Record) (at : Cursor) (is : isListing (directory
         ∙ ap (λ r. Reported r (cursorAt (nextOf (directoryOf s book (at .chunk))) 0)) (sym (n .2))
 
 module _ (s : List ℕ) (book : Record) (at : Cursor) where
-  pub step-unfit : bookFits s book ≡ false → stepped s book at ≡ Refused refusal
+  pub step-unfit : bookFits s book ≡ false → stepped s book at ≡ Refused (refusalOf 17)
   unfolding stepped
   step-unfit f = rw f
 
@@ -80,7 +81,7 @@ module _ (s : List ℕ) (book : Record) (at : Cursor) where
     step-end h = rw (f, eq-eqb (at .chunk) noChunk h)
 
     module _ (n : at .chunk ≡ noChunk → ⊥) where
-      pub step-other : listingChunk (directoryOf s book) (shapeOf book) (at .chunk) ≡ false → stepped s book at ≡ Refused refusal
+      pub step-other : listingChunk (directoryOf s book) (shapeOf book) (at .chunk) ≡ false → stepped s book at ≡ Refused (refusalOf 17)
       unfolding stepped
       step-other h = rw (f, ne-eqb (at .chunk) noChunk n, h)
 

@@ -6,13 +6,13 @@ use mathlib.Core.List.{List, [], _∷_, map, flatMap}
 use lib.ListN.{length}
 use lib.Seq.{sets}
 use lib.Dec.{ltb, leb, eqb}
+use Rattle.refusals.specs.Refusals.{noChunk, refusalOf}
 use Rattle.fields.specs.Part.{partOf}
 use Rattle.chunk.specs.Chunk.{Parsed, entriesIn}
 use Rattle.seek.specs.Seek.{Sought, absent, found, nth}
 use Rattle.header.specs.declared.Record.{Record}
-use Rattle.tree.specs.Shape.{noChunk, nextOf, listingChunk}
-use Rattle.book.specs.Book.{directoryOf, shapeOf, bookFits, refusalOf, reportOf, ownOf, OwnBytes}
-use Rattle.book.specs.declared.Refusal.{Refusal}
+use Rattle.tree.specs.Shape.{nextOf, listingChunk}
+use Rattle.book.specs.Book.{directoryOf, shapeOf, bookFits, reportOf, ownOf, OwnBytes}
 use Rattle.book.specs.declared.Report.{Report}
 use Rattle.listing.specs.declared.Cursor.{Cursor}
 use Rattle.listing.specs.declared.Step.{Step}
@@ -21,10 +21,6 @@ use Rattle.listing.specs.declared.Owned.{Owned}
 use Rattle.listing.specs.declared.Owned.the-variants.{At, Nothing}
 use Rattle.listing.specs.declared.Page.{Page}
 use Rattle.listing.specs.declared.Page.the-variants.{Entries, Short}
-
--- the one refusal of listing; it belongs to no chunk (R17, RO7)
-abbrev pub refusal : Refusal
-refusal = refusalOf 17
 
 -- chunk c can be listed: the record can be asked, and c is a listing chunk below the count (K12, K13)
 unfoldable pub canList : List ℕ → Record → ℕ → Bool
@@ -48,10 +44,10 @@ movedOn p c i = cond (ltb (i + 1) (length (entriesIn p))) (cursorAt c (i + 1)) (
 
 -- the entry that is there, reported (K7), and the cursor moved on
 abbrev pub stepOf : Record → Parsed → ℕ → ℕ → Sought → Step
-stepOf book p c i absent = Step.Refused refusal
+stepOf book p c i absent = Step.Refused (refusalOf 17)
 stepOf book p c i (found e) = Step.Entry (reportOf book c e) (movedOn p c i)
 
--- at a cursor in a chunk that is p: 17 where it lacks the entry (K13)
+-- at a cursor in a chunk that is p: 17, which belongs to no chunk (R17, RO7), where it lacks the entry (K13)
 unfoldable pub entryStep : Record → Parsed → Cursor → Step
 entryStep book p at = stepOf book p (at .chunk) (at .entry) (nth (at .entry) (entriesIn p))
 
@@ -63,8 +59,8 @@ stepped s book at =
     (End at)
     (cond (listingChunk (directoryOf s book) (shapeOf book) (at .chunk))
     (entryStep book (directoryOf s book (at .chunk)) at)
-    (Step.Refused refusal)))
-    (Step.Refused refusal)
+    (Step.Refused (refusalOf 17))))
+    (Step.Refused (refusalOf 17))
 
 -- ---- own bytes
 
@@ -111,7 +107,7 @@ module _ (s : List ℕ) (book : Record) (c : ℕ) where
   pageOf n =
       cond (canList s book c)
       (cond (hasRoom n) (Entries (length (entriesIn (directoryOf s book c))) (nextOf (directoryOf s book c))) Short)
-      (Page.Refused refusal)
+      (Page.Refused (refusalOf 17))
 
   -- the slice t with the entries' numbers from place 0 on; t itself where they are refused (RO8) or have no room
   unfoldable pub pageIn : List ℕ → List ℕ

@@ -5,8 +5,8 @@ use mathlib.Core.Path.{_≡_}
 use mathlib.Core.List.{List, [], _∷_, _++_, flatMap}
 use lib.ListN.{length, take}
 use lib.Seq.{sets}
+use Rattle.refusals.specs.Refusals.{noChunk}
 use Rattle.header.specs.declared.Record.{Record}
-use Rattle.tree.specs.Shape.{noChunk}
 use Rattle.tree.specs.Chain.{chain}
 use Rattle.tree.specs.Demand.{Listed}
 use Rattle.book.specs.Book.{directoryOf, shapeOf}

@@ -10,11 +10,11 @@ ghost use Rattle.tree.specs.Shape.{isListing, nextOf};
 ghost use Rattle.book.specs.Book.{chunkBytes, directoryOf};
 ghost use Rattle.listing.specs.Listing.{startOf, entryStep, stepped, ownedAt, OwnBeside, fiveOf, numbersOf, reportsIn, pageOf, pageIn, contentPart};
 use book::Own;
-use book::Refusal;
 use book::Report;
 use chunk::Chunk;
 use entries::Item;
 use header::Record;
+use refusals::Refusal;
 use seek::Hit;
 
 // The chunk and the number of the entry to be reported next.
@@ -51,7 +51,7 @@ fn step_in(file: &[u8], book: Record, at: Cursor, next: u32) -> Step
 {
     let c = book::chunk_bytes(file, book, at.chunk);
     let Hit::At(e) = seek::nth_entry(c, book::limits(file, book), true, at.entry as usize) else {
-        return Step::Refused(book::refuse(17));
+        return Step::Refused(refusals::refuse(17));
     };
     let r = book::report_of(file, book, at.chunk, e);
     let total = fields::le16(c, 4094) as u64;
@@ -85,15 +85,15 @@ impl Cursor {
         ensures { λ r. ⌜ r ≡ stepped (now (file .entry)) book self ⌝ }
     {
         if !book::fits(file, book) {
-            return Step::Refused(book::refuse(17));
+            return Step::Refused(refusals::refuse(17));
         }
-        if self.chunk == 0xFFFF_FFFF {
+        if self.chunk == refusals::no_chunk() as u64 {
             return Step::End(self);
         }
         match book::met(file, book, self.chunk) {
             Chunk::Listing(_, next) => step_in(file, book, self, next),
-            Chunk::Index => Step::Refused(book::refuse(17)),
-            Chunk::Refused(_) => Step::Refused(book::refuse(17)),
+            Chunk::Index => Step::Refused(refusals::refuse(17)),
+            Chunk::Refused(_) => Step::Refused(refusals::refuse(17)),
         }
     }
 
@@ -155,12 +155,12 @@ pub fn page_of(file: &[u8], book: Record, chunk: u64, out: &mut [u64]) -> Page
     ensures written { λ _. ⌜ now (out .exit) ≡ pageIn (now (file .entry)) book chunk (now (out .entry)) ⌝ }
 {
     if !book::fits(file, book) {
-        return Page::Refused(book::refuse(17));
+        return Page::Refused(refusals::refuse(17));
     }
     let next = match book::met(file, book, chunk) {
         Chunk::Listing(_, next) => next,
-        Chunk::Index => return Page::Refused(book::refuse(17)),
-        Chunk::Refused(_) => return Page::Refused(book::refuse(17)),
+        Chunk::Index => return Page::Refused(refusals::refuse(17)),
+        Chunk::Refused(_) => return Page::Refused(refusals::refuse(17)),
     };
     let total = fields::le16(book::chunk_bytes(file, book, chunk), 4094) as u32;
     if out.len() < 5 * (total as usize) {

@@ -9,6 +9,7 @@ use lib.ListN.{length, drop}
 use lib.Seq.{sets}
 use borrow.Author.Tests.{le-leb}
 use Rattle.fields.proofs.Tests.{never}
+use Rattle.refusals.specs.declared.Refusal.{Refusal}
 use Rattle.chunk.specs.Chunk.{Entry}
 use Rattle.header.specs.declared.Record.{Record}
 use Rattle.header.proofs.Accepted.{accepted}
@@ -19,7 +20,6 @@ use Rattle.tree.proofs.Descended.{trail-bound}
 use Rattle.tree.proofs.Demanded.{demand-3}
 use Rattle.book.specs.Book.{directoryOf, shapeOf, reportOf}
 use Rattle.book.specs.declared.Report.{Report}
-use Rattle.book.specs.declared.Refusal.{Refusal}
 use Rattle.opening.specs.Opened.{opened}
 use Rattle.opening.specs.declared.Opened.the-variants.{Book}
 use Rattle.lookup.specs.Lookup.{outcomeIn, trailIn, countIn, effortIn, answerOf, unless, lookedUp, trailAfter}

@@ -9,6 +9,7 @@ use native.Mathlib.Omega.{arith}
 use lib.Dec.{leb}
 use lib.ListN.{length}
 use Rattle.fields.proofs.Tests.{never}
+use Rattle.refusals.specs.Refusals.{refusalOf}
 use Rattle.names.specs.Names.{askable, compared}
 use Rattle.chunk.specs.Chunk.{spacingOf, entriesIn}
 use Rattle.seek.proofs.Counts.{cost-few}
@@ -18,11 +19,11 @@ use Rattle.tree.specs.Descent.{Outcome, found, absent, refused}
 use Rattle.book.specs.Book.{directoryOf, bookFits}
 use Rattle.book.specs.Search.{costAt}
 use Rattle.book.specs.declared.Report.{Report}
-use Rattle.lookup.specs.Lookup.{outcomeIn, trailIn, costs, effortIn, refusal, answerOf, lookedUp}
+use Rattle.lookup.specs.Lookup.{outcomeIn, trailIn, costs, effortIn, answerOf, lookedUp}
 use Rattle.lookup.specs.Counted.{groupsAt, Counted}
 use Rattle.lookup.specs.declared.Effort.{Effort}
 use Rattle.lookup.specs.declared.Answer.{Answer}
-use Rattle.lookup.specs.declared.Answer.the-variants.{Found, Absent}
+use Rattle.lookup.specs.declared.Answer.the-variants.{Found, Absent, Refused}
 
 -- ---- an answer that is no refusal has no other effort than x
 
@@ -34,7 +35,7 @@ only-of book x (found c e) = ((λ y n q. let z : x ≡ n = cc in sym z), (λ n q
 only-of book x absent = ((λ y n q. never (cc)), (λ n q. let z : x ≡ n = cc in sym z))
 only-of book x refused = ((λ y n q. never (cc)), (λ n q. never (cc)))
 
-only-refusal : (x : Effort) (i : ℕ) → Only x (refusal i)
+only-refusal : (x : Effort) (i : ℕ) → Only x (Refused (refusalOf i))
 only-refusal x i = ((λ y n q. never (cc)), (λ n q. never (cc)))
 
 module _ (s : List ℕ) (book : Record) (name : List ℕ) where
@@ -43,7 +44,7 @@ module _ (s : List ℕ) (book : Record) (name : List ℕ) where
   only places = go (askable name) (leb 5 places) (bookFits s book)
     where
       go : (a b c : Bool)
-          → Only (effortIn s book name) (cond a (cond b (cond c (answerOf book (effortIn s book name) (outcomeIn s book name)) (refusal 17)) (refusal 16)) (refusal 15))
+          → Only (effortIn s book name) (cond a (cond b (cond c (answerOf book (effortIn s book name) (outcomeIn s book name)) (Refused (refusalOf 17))) (Refused (refusalOf 16))) (Refused (refusalOf 15)))
       go true true true = only-of book (effortIn s book name) (outcomeIn s book name)
       go true true false = only-refusal (effortIn s book name) 17
       go true false c = only-refusal (effortIn s book name) 16

@@ -7,6 +7,7 @@ use Prim.Native.Nat.{ℕ, suc, _+_, _-_, _≤_, _<_}
 use native.Mathlib.Omega.{arith}
 use lib.ListN.{getD, set}
 use Rattle.fields.proofs.Tests.{never}
+use Rattle.refusals.specs.Refusals.{refusalOf}
 use Rattle.seek.specs.Seek.{Sought}
 use Rattle.header.specs.declared.Record.{Record}
 use Rattle.tree.specs.Shape.{listingChunk, indexChunk}
@@ -15,11 +16,11 @@ use Rattle.tree.proofs.Chunks.{listing-chunk, index-chunk}
 use Rattle.book.specs.Book.{directoryOf, shapeOf}
 use Rattle.book.specs.Search.{costAt}
 use Rattle.book.proofs.Searching.{chosen-fits}
-use Rattle.lookup.specs.Lookup.{refusal, answerOf, isRefusal, unless}
+use Rattle.lookup.specs.Lookup.{answerOf, isRefusal, unless}
 use Rattle.lookup.specs.Step.{wayAt, outcomeAt, trailAt, Descended}
 use Rattle.lookup.specs.declared.Effort.{Effort}
 use Rattle.lookup.specs.declared.Answer.{Answer}
-use Rattle.lookup.specs.declared.Answer.the-variants.{Absent}
+use Rattle.lookup.specs.declared.Answer.the-variants.{Absent, Refused}
 use Rattle.lookup.specs.declared.Way.{Way}
 use Rattle.lookup.specs.declared.Way.the-variants.{Down, Ends, Barred}
 use Rattle.lookup.proofs.Trail.{unwound}
@@ -118,7 +119,7 @@ module _ (s : List ℕ) (book : Record) (name : List ℕ) (c : ℕ) where
             places = rw (l .4) (unwound a was mid is i c (trailAt s book name (suc (level - 2)) k) (d′ .places) q);
           })
 
-  pub at-bar : (level i n : ℕ) (was : List ℕ) (r : Answer) → 2 ≤ level → Barred ≡ wayAt s book name c → r ≡ refusal 17 → Descended s book name level c i n was r was
+  pub at-bar : (level i n : ℕ) (was : List ℕ) (r : Answer) → 2 ≤ level → Barred ≡ wayAt s book name c → r ≡ Refused (refusalOf 17) → Descended s book name level c i n was r was
   at-bar level i n was r h w p =
       let e : suc (suc (level - 2)) ≡ level = omega arith in
       let l = subst (Leads (level - 2)) (sym w) (leads (level - 2)) in

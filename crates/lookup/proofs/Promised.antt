@@ -7,6 +7,7 @@ use Prim.Native.Nat.{ℕ, _≤_, _<_}
 use native.Mathlib.Omega.{arith}
 use lib.ListN.{length}
 use borrow.Author.Tests.{le-leb, lt-leb}
+use Rattle.refusals.specs.Refusals.{refusalOf}
 use Rattle.names.specs.Names.{askable}
 use Rattle.header.specs.declared.Record.{Record}
 use Rattle.tree.specs.Tree.{top}
@@ -14,13 +15,14 @@ use Rattle.tree.specs.Descent.{outcome, trail}
 use Rattle.book.specs.Book.{shapeOf, bookFits}
 use Rattle.opening.specs.Opened.{opened}
 use Rattle.opening.specs.declared.Opened.the-variants.{Book}
-use Rattle.lookup.specs.Lookup.{trailIn, outcomeIn, effortIn, refusal, answerOf, lookedUp, trailAfter}
+use Rattle.lookup.specs.Lookup.{trailIn, outcomeIn, effortIn, answerOf, lookedUp, trailAfter}
 use Rattle.lookup.specs.Step.{effortAfter, Descended}
 use Rattle.lookup.specs.Complete.{Complete}
 use Rattle.lookup.specs.Counted.{Counted}
 use Rattle.lookup.specs.Blocks.{OnlyBlocks}
 use Rattle.lookup.specs.declared.Effort.{Effort}
 use Rattle.lookup.specs.declared.Answer.{Answer}
+use Rattle.lookup.specs.declared.Answer.the-variants.{Refused}
 use Rattle.lookup.proofs.Complete.{complete}
 use Rattle.lookup.proofs.Counting.{counted}
 use Rattle.lookup.proofs.Blocks.{only-blocks}
@@ -41,21 +43,21 @@ module _ (s : List ℕ) (book : Record) (name was : List ℕ) where
 
   -- ---- a refusal
 
-  refuses : (n : ℕ) (r : Answer) → r ≡ refusal n → lookedUp s book name (length was) ≡ refusal n → Promised r was
+  refuses : (n : ℕ) (r : Answer) → r ≡ Refused (refusalOf n) → lookedUp s book name (length was) ≡ Refused (refusalOf n) → Promised r was
   unfolding trailAfter
   refuses n r p q = promised r was (p ∙ sym q) (rw q refl)
 
-  pub name-bad : (r : Answer) → askable name ≡ false → r ≡ refusal 15 → Promised r was
+  pub name-bad : (r : Answer) → askable name ≡ false → r ≡ Refused (refusalOf 15) → Promised r was
   unfolding lookedUp
   name-bad r h p = refuses 15 r p (rw h refl)
 
   module _ (good : askable name ≡ true) where
-    pub trail-short : (r : Answer) → length was < 5 → r ≡ refusal 16 → Promised r was
+    pub trail-short : (r : Answer) → length was < 5 → r ≡ Refused (refusalOf 16) → Promised r was
     unfolding lookedUp
     trail-short r h p = refuses 16 r p (rw (good, lt-leb 5 (length was) h) refl)
 
     module _ (room : 5 ≤ length was) where
-      pub record-bad : (r : Answer) → bookFits s book ≡ false → r ≡ refusal 17 → Promised r was
+      pub record-bad : (r : Answer) → bookFits s book ≡ false → r ≡ Refused (refusalOf 17) → Promised r was
       unfolding lookedUp
       record-bad r h p = refuses 17 r p (rw (good, le-leb 5 (length was) room, h) refl)
 

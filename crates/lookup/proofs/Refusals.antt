@@ -6,20 +6,20 @@ use mathlib.Core.List.{List}
 use Prim.Native.Nat.{ℕ, _≤_}
 use native.Mathlib.Omega.{arith}
 use lib.Dec.{leb}
+use Rattle.refusals.specs.Refusals.{noChunk, refusalOf}
+use Rattle.refusals.specs.declared.Refusal.{Refusal}
 use Rattle.names.specs.Names.{askable}
 use Rattle.header.specs.declared.Record.{Record}
-use Rattle.tree.specs.Shape.{noChunk}
 use Rattle.tree.specs.Descent.{Outcome, found, absent, refused}
 use Rattle.book.specs.Book.{bookFits}
-use Rattle.book.specs.declared.Refusal.{Refusal}
-use Rattle.lookup.specs.Lookup.{outcomeIn, effortIn, refusal, answerOf, lookedUp}
+use Rattle.lookup.specs.Lookup.{outcomeIn, effortIn, answerOf, lookedUp}
 use Rattle.lookup.specs.declared.Effort.{Effort}
 use Rattle.lookup.specs.declared.Answer.the-variants.{Refused}
 
 abbrev InTable : Refusal → Type 0
 InTable x = (15 ≤ x .number) × (x .number ≤ 17) × (x .chunk ≡ noChunk)
 
-told : (n : ℕ) (x : Refusal) → 15 ≤ n → n ≤ 17 → refusal n ≡ Refused x → InTable x
+told : (n : ℕ) (x : Refusal) → 15 ≤ n → n ≤ 17 → Refused (refusalOf n) ≡ Refused x → InTable x
 told n x l h q =
     let y : record { number = n; chunk = noChunk } ≡ x = cc in
     let a : n ≡ x .number = ap (λ (w : Refusal). w .number) y in
@@ -35,7 +35,7 @@ pub lookup-refusal : (s : List ℕ) (book : Record) (name : List ℕ) (places : 
 unfolding lookedUp
 lookup-refusal s book name places x = go (askable name) (leb 5 places) (bookFits s book)
   where
-    go : (a b c : Bool) → cond a (cond b (cond c (answerOf book (effortIn s book name) (outcomeIn s book name)) (refusal 17)) (refusal 16)) (refusal 15) ≡ Refused x → InTable x
+    go : (a b c : Bool) → cond a (cond b (cond c (answerOf book (effortIn s book name) (outcomeIn s book name)) (Refused (refusalOf 17))) (Refused (refusalOf 16))) (Refused (refusalOf 15)) ≡ Refused x → InTable x
     go true true true q = answer-told book (effortIn s book name) (outcomeIn s book name) x q
     go true true false q = told 17 x (omega arith) (omega arith) q
     go true false c q = told 16 x (omega arith) (omega arith) q

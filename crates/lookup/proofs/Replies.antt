@@ -8,11 +8,12 @@ use mathlib.Core.List.{List}
 use Prim.Native.Nat.{ℕ, _≤_}
 use native.Mathlib.Omega.{arith}
 use borrow.Author.Tests.{le-leb}
+use Rattle.refusals.specs.Refusals.{refusalOf}
+use Rattle.refusals.specs.declared.Refusal.{Refusal}
 use Rattle.names.specs.Names.{askable}
 use Rattle.header.specs.declared.Record.{Record}
 use Rattle.tree.specs.Descent.{Outcome, found, absent, refused}
-use Rattle.book.specs.Book.{refusalOf, bookFits}
-use Rattle.book.specs.declared.Refusal.{Refusal}
+use Rattle.book.specs.Book.{bookFits}
 use Rattle.lookup.specs.Lookup.{outcomeIn, effortIn, answerOf, lookedUp}
 use Rattle.lookup.specs.Reply.{replyTo, repliedTo, replyOf}
 use Rattle.lookup.specs.declared.Effort.{Effort}

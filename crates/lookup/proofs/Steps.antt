@@ -5,6 +5,7 @@ use mathlib.Core.Bool.{Bool, true, false, cond}
 use mathlib.Core.List.{List}
 use Prim.Native.Nat.{ℕ, _+_, _<_}
 use lib.ListN.{getD}
+use Rattle.refusals.specs.Refusals.{refusalOf}
 use Rattle.names.specs.Names.{compared}
 use Rattle.chunk.specs.Chunk.{entriesIn}
 use Rattle.seek.specs.Seek.{Sought, lookup, chooseIn}
@@ -21,10 +22,10 @@ use Rattle.book.specs.declared.Report.{Report}
 use Rattle.book.specs.declared.Search.{Search}
 use Rattle.book.specs.declared.Search.the-variants.{Next}
 use Rattle.book.proofs.Searching.{chosen-in, chosen-cost, found-fits, search-told}
-use Rattle.lookup.specs.Lookup.{refusal, answerOf}
+use Rattle.lookup.specs.Lookup.{answerOf}
 use Rattle.lookup.specs.Step.{wayAt, outcomeAt}
 use Rattle.lookup.specs.declared.Answer.{Answer}
-use Rattle.lookup.specs.declared.Answer.the-variants.{Found, Absent}
+use Rattle.lookup.specs.declared.Answer.the-variants.{Found, Absent, Refused}
 use Rattle.lookup.specs.declared.Way.the-variants.{Down, Ends, Barred}
 
 -- ---- a listing chunk
@@ -33,7 +34,7 @@ use Rattle.lookup.specs.declared.Way.the-variants.{Down, Ends, Barred}
 abbrev pub afterSearch : ℕ → ℕ → Search → Answer
 afterSearch n spent (Search.Found m x) = Found (record { chunks = n; comparisons = spent + m }) x
 afterSearch n spent (Next m k) = Absent (record { chunks = n; comparisons = spent + m })
-afterSearch n spent Search.Barred = refusal 17
+afterSearch n spent Search.Barred = Refused (refusalOf 17)
 
 module _ (s : List ℕ) (book : Record) (name : List ℕ) (c : ℕ) where
   pub listing-answer : (n spent : ℕ) (x : Search) → searchIn s book name c ≡ x

@@ -6,10 +6,11 @@ use Prim.Native.Nat.{ℕ, _+_}
 use lib.ListN.{length}
 use lib.Seq.{sets}
 use lib.Dec.{leb}
+use Rattle.refusals.specs.Refusals.{refusalOf}
 use Rattle.names.specs.Names.{askable}
 use Rattle.header.specs.declared.Record.{Record}
 use Rattle.tree.specs.Descent.{Outcome, found, absent, refused, outcome, trail}
-use Rattle.book.specs.Book.{directoryOf, shapeOf, bookFits, refusalOf, reportOf}
+use Rattle.book.specs.Book.{directoryOf, shapeOf, bookFits, reportOf}
 use Rattle.book.specs.Search.{costAt}
 use Rattle.lookup.specs.declared.Effort.{Effort}
 use Rattle.lookup.specs.declared.Answer.{Answer}
@@ -40,16 +41,12 @@ effortIn s book name = record { chunks = countIn s book name; comparisons = cost
 
 -- ---- the answer
 
--- a refusal of lookup has no chunk for its place (RO7)
-abbrev pub refusal : ℕ → Answer
-refusal n = Refused (refusalOf n)
-
 -- what a descent answers (K3): found has the five numbers of the entry (K6), and found and absent, which are no refusals (RO9), have what it took, n;
--- 17 where it met a chunk that is none of its level (R17, K13, K14)
+-- 17 where it met a chunk that is none of its level (R17, RO7, K13, K14)
 abbrev pub answerOf : Record → Effort → Outcome → Answer
 answerOf book n (found c e) = Found n (reportOf book c e)
 answerOf book n absent = Absent n
-answerOf book n refused = refusal 17
+answerOf book n refused = Refused (refusalOf 17)
 
 -- the checks in their order (RO5): the name (R15), the number of the trail's places (R16), the record (R17, K12); then the descent
 unfoldable pub lookedUp : List ℕ → Record → List ℕ → ℕ → Answer
@@ -58,9 +55,9 @@ lookedUp s book name places =
     (cond (leb 5 places)
     (cond (bookFits s book)
     (answerOf book (effortIn s book name) (outcomeIn s book name))
-    (refusal 17))
-    (refusal 16))
-    (refusal 15)
+    (Refused (refusalOf 17)))
+    (Refused (refusalOf 16)))
+    (Refused (refusalOf 15))
 
 -- ---- the trail
 

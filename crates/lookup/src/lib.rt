@@ -6,16 +6,16 @@ ghost use lib.ListN.{length, set};
 ghost use Rattle.book.specs.Search.{costAt};
 ghost use Rattle.opening.specs.Opened.{opened};
 ghost use Rattle.opening.specs.declared.Opened.the-variants.{Book};
-ghost use Rattle.lookup.specs.Lookup.{refusal, answerOf, isRefusal, lookedUp, trailAfter};
+ghost use Rattle.lookup.specs.Lookup.{answerOf, isRefusal, lookedUp, trailAfter};
 ghost use Rattle.lookup.specs.Step.{wayAt, outcomeAt, Descended};
 ghost use Rattle.lookup.specs.Complete.{Complete};
 ghost use Rattle.lookup.specs.Counted.{Counted};
 ghost use Rattle.lookup.specs.Blocks.{OnlyBlocks};
-use book::Refusal;
 use book::Report;
 use book::Search;
 use chunk::Chunk;
 use header::Record;
+use refusals::Refusal;
 use seek::Child;
 
 // What a descent takes: how many chunks it goes through, and how many comparisons of the asked name it makes in them.
@@ -45,13 +45,6 @@ enum Way {
     Barred,
 }
 
-// A refusal, which belongs to no chunk.
-fn refused(number: u8) -> Answer
-    ensures { λ r. ⌜ r ≡ refusal number ⌝ }
-{
-    Answer::Refused(book::refuse(number))
-}
-
 // What chunk c, which has to be a listing chunk, answers to a name; n is the count of the descent's chunks, `spent` how many comparisons were made before.
 fn ask_listing(file: &[u8], book: Record, name: &[u8], c: u64, n: u32, spent: u32) -> Answer
     requires { ⌜ spent < 0x100000 ⌝ }
@@ -74,7 +67,7 @@ fn ask_listing(file: &[u8], book: Record, name: &[u8], c: u64, n: u32, spent: u3
             };
             Answer::Absent(effort)
         }
-        Search::Barred => refused(17),
+        Search::Barred => Answer::Refused(refusals::refuse(17)),
     }
 }
 
@@ -152,7 +145,7 @@ fn descend(
             mark(false, trail, i, c);
             Answer::Absent(effort)
         }
-        Way::Barred => refused(17),
+        Way::Barred => Answer::Refused(refusals::refuse(17)),
     }
 }
 
@@ -167,13 +160,13 @@ pub fn lookup(file: &[u8], book: Record, name: &[u8], trail: &mut [u32]) -> Answ
     let good_name = names::is_askable(name);
     let good_record = book::fits(file, book);
     if !good_name {
-        return refused(15);
+        return Answer::Refused(refusals::refuse(15));
     }
     if trail.len() < 5 {
-        return refused(16);
+        return Answer::Refused(refusals::refuse(16));
     }
     if !good_record {
-        return refused(17);
+        return Answer::Refused(refusals::refuse(17));
     }
     descend(
         file,

@@ -5,9 +5,10 @@ use mathlib.Core.Logic.{_↔_}
 use mathlib.Core.List.{List}
 use Prim.Native.Nat.{ℕ}
 use native.Mathlib.Omega.{arith}
+use Rattle.refusals.specs.Refusals.{refusalOf}
+use Rattle.refusals.specs.declared.Refusal.{Refusal}
 use Rattle.header.specs.declared.Record.{Record}
-use Rattle.book.specs.declared.Refusal.{Refusal}
-use Rattle.listing.specs.Listing.{refusal, stepped, OwnBeside}
+use Rattle.listing.specs.Listing.{stepped, OwnBeside}
 use Rattle.listing.specs.declared.Cursor.{Cursor}
 use Rattle.listing.specs.declared.Step.{Step}
 use Rattle.listing.specs.declared.Step.the-variants.{Entry, End, Refused}
@@ -17,7 +18,7 @@ use Rattle.listing.proofs.Refusals.{step-refusal}
 use Rattle.numbers.specs.Numbers.{stepCode, ownCode}
 
 -- a step that is refused by 17 alone
-told : (s : List ℕ) (t : Step) (o : Owned) → ((q : Refusal) → t ≡ Refused q → q ≡ refusal) → OwnBeside s t o → (ownCode o ≡ 0) ↔ (stepCode t ≡ 0)
+told : (s : List ℕ) (t : Step) (o : Owned) → ((q : Refusal) → t ≡ Refused q → q ≡ refusalOf 17) → OwnBeside s t o → (ownCode o ≡ 0) ↔ (stepCode t ≡ 0)
 told s (Entry r next) (At o) h b = ((λ e. refl), (λ e. refl))
 told s (Entry r next) Nothing h b = absurd b
 told s (End at) (At o) h b = absurd b

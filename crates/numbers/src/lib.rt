@@ -4,7 +4,7 @@ ghost use mathlib.Core.Path.{_≡_};
 ghost use Rattle.listing.specs.Listing.{fiveOf};
 ghost use Rattle.numbers.specs.Numbers.{recordIn, recordNumbers, refusalCode, openCode, openRecord, lookupCode, lookupNumbers, replyCode, replyNumbers, batchCode, cursorIn, cursorNumbers, stepCode, stepCursor, stepNumbers, ownCode, ownNumbers, pageCode, pageNumbers, writeCode, writeNumbers};
 use batch::Batched;
-use book::Refusal;
+use refusals::Refusal;
 use book::Report;
 use header::Record;
 use listing::Cursor;

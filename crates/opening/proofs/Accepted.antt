@@ -9,6 +9,7 @@ use native.Mathlib.Decide.{ℕ-discrete}
 use lib.ListN.{length}
 use lib.Dec.{eqb}
 use borrow.Author.Tests.{eqb-true, le-leb}
+use Rattle.refusals.specs.Refusals.{refusalOf, refusalAt}
 use Rattle.chunk.specs.Chunk.{Parsed, faultOf}
 use Rattle.header.specs.Header.{headerOf}
 use Rattle.header.specs.declared.Record.{Record}
@@ -19,9 +20,9 @@ use Rattle.tree.specs.Chain.{chainOk}
 use Rattle.tree.specs.Tree.{treeOk}
 use Rattle.tree.specs.Demand.{GoodDirectory}
 use Rattle.book.specs.Book.{directoryOf, shapeOf, bookFits}
-use Rattle.opening.specs.Opened.{refusal, refusalAt, chunksThen, linkedBook, withHeader, opened}
+use Rattle.opening.specs.Opened.{chunksThen, linkedBook, withHeader, opened}
 use Rattle.opening.specs.declared.Opened.{Opened}
-use Rattle.opening.specs.declared.Opened.the-variants.{Book}
+use Rattle.opening.specs.declared.Opened.the-variants.{Book, Refused}
 use Rattle.opening.proofs.Links.{chunks-good}
 
 -- ---- what a book that comes out of the checks has passed
@@ -34,7 +35,7 @@ chunks-passed D r x (suc n) c e = go (eqb (faultOf (D c)) 0) refl (λ q. chunks-
   where
     go : (t : Bool) → eqb (faultOf (D c)) 0 ≡ t
         → (chunksThen D n (c + 1) x ≡ Book r → ((k : ℕ) → c + 1 ≤ k → k < c + 1 + n → faultOf (D k) ≡ 0) × (x ≡ Book r))
-        → cond t (chunksThen D n (c + 1) x) (refusalAt (faultOf (D c)) c) ≡ Book r
+        → cond t (chunksThen D n (c + 1) x) (Refused (refusalAt (faultOf (D c)) c)) ≡ Book r
         → ((k : ℕ) → c ≤ k → k < c + suc n → faultOf (D k) ≡ 0) × (x ≡ Book r)
     go true q f e = (
       (λ k l h. elim (ℕ-discrete c k) [
@@ -50,7 +51,7 @@ linked-passed : (s : List ℕ) (b r : Record) → linkedBook s b ≡ Book r
 unfolding linkedBook
 linked-passed s b r e = go (chainOk (directoryOf s b) (shapeOf b)) (treeOk (directoryOf s b) (shapeOf b)) e
   where
-    go : (x y : Bool) → cond x (cond y (Book b) (refusal 14)) (refusal 13) ≡ Book r → (x ≡ true) × (y ≡ true) × (b ≡ r)
+    go : (x y : Bool) → cond x (cond y (Book b) (Refused (refusalOf 14))) (Refused (refusalOf 13)) ≡ Book r → (x ≡ true) × (y ≡ true) × (b ≡ r)
     go true true e = (refl, refl, cc)
     go true false e = let z : _≡_ {A = ℕ} 0 1 = cc in absurd (omega arith)
     go false y e = let z : _≡_ {A = ℕ} 0 1 = cc in absurd (omega arith)

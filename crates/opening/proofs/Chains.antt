@@ -8,9 +8,10 @@ use native.Mathlib.Omega.{arith}
 use native.Mathlib.Numerals.{sub-one}
 use lib.Dec.{eqb}
 use Rattle.fields.proofs.Tests.{and-no}
+use Rattle.refusals.specs.Refusals.{noChunk}
 use Rattle.names.specs.Names.{below}
 use Rattle.chunk.specs.Chunk.{Parsed}
-use Rattle.tree.specs.Shape.{Shape, noChunk, previousOf, nextOf, firstName, lastName, listingChunk}
+use Rattle.tree.specs.Shape.{Shape, previousOf, nextOf, firstName, lastName, listingChunk}
 use Rattle.tree.specs.Walk.{chainRun}
 use Rattle.tree.proofs.Steps.{run-other}
 use Rattle.opening.specs.Passes.{linkOf}

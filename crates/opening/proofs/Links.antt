@@ -6,16 +6,17 @@ use mathlib.Core.List.{List}
 use Prim.Native.Nat.{ℕ, _+_, _-_, _≤_, _<_}
 use native.Mathlib.Omega.{arith}
 use Rattle.fields.specs.Same.{standsAt}
+use Rattle.refusals.specs.Refusals.{noChunk, refusalOf}
 use Rattle.chunk.specs.Chunk.{tagOf}
 use Rattle.header.specs.declared.Record.{Record}
-use Rattle.tree.specs.Shape.{noChunk, isListing, isIndex, GoodChunks}
+use Rattle.tree.specs.Shape.{isListing, isIndex, GoodChunks}
 use Rattle.tree.specs.Walk.{listings, indexes, chainRunOk, treeWalkOk}
 use Rattle.tree.proofs.Parsed.{good-chunks}
 use Rattle.tree.proofs.Chunks.{kinds-count}
 use Rattle.tree.proofs.Walked.{checks-same}
 use Rattle.book.specs.Book.{limitsOf, chunkBytes, directoryOf, shapeOf}
-use Rattle.opening.specs.Opened.{refusal, linkedBook}
-use Rattle.opening.specs.declared.Opened.the-variants.{Book}
+use Rattle.opening.specs.Opened.{linkedBook}
+use Rattle.opening.specs.declared.Opened.the-variants.{Book, Refused}
 use Rattle.opening.specs.Passes.{GoodBook}
 use Rattle.opening.proofs.Tags.{Tagged, tagged-chunk}
 
@@ -36,6 +37,6 @@ module _ (s : List ℕ) (r : Record) (good : GoodBook s r) where
   pub listing-count : listings (directoryOf s r) (shapeOf r) ≤ r .count
   listing-count = omega (arith, kinds-count (directoryOf s r) (shapeOf r) chunks-good)
 
-  pub linked-run : linkedBook s r ≡ cond (chainRunOk (directoryOf s r) (shapeOf r)) (cond (treeWalkOk (directoryOf s r) (shapeOf r)) (Book r) (refusal 14)) (refusal 13)
+  pub linked-run : linkedBook s r ≡ cond (chainRunOk (directoryOf s r) (shapeOf r)) (cond (treeWalkOk (directoryOf s r) (shapeOf r)) (Book r) (Refused (refusalOf 14))) (Refused (refusalOf 13))
   unfolding linkedBook
-  linked-run = let f = good .few in sym (checks-same (directoryOf s r) (shapeOf r) chunks-good (omega arith) (Book r) (refusal 14) (refusal 13))
+  linked-run = let f = good .few in sym (checks-same (directoryOf s r) (shapeOf r) chunks-good (omega arith) (Book r) (Refused (refusalOf 14)) (Refused (refusalOf 13)))

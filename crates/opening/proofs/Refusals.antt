@@ -10,6 +10,8 @@ use lib.ListN.{length}
 use lib.Dec.{eqb}
 use borrow.Author.Tests.{eqb-true, eqb-false}
 use Rattle.fields.specs.Same.{standsAt}
+use Rattle.refusals.specs.Refusals.{noChunk, refusalOf, refusalAt}
+use Rattle.refusals.specs.declared.Refusal.{Refusal}
 use Rattle.entries.specs.declared.Limits.{Limits}
 use Rattle.chunk.specs.Chunk.{Entries, broken, all, Parsed, bad, tagOf, made, entriesAt, rising, quick, headOf, countOf, tailOf, spacingOf, framed, judged, parsedAs, parsed, faultOf}
 use Rattle.header.specs.Header.{headerOf}
@@ -17,12 +19,10 @@ use Rattle.header.specs.declared.Record.{Record}
 use Rattle.header.specs.declared.CheckedHeader.{CheckedHeader}
 use Rattle.header.specs.declared.CheckedHeader.the-variants.{Good}
 use Rattle.header.proofs.Checks.{header-refused}
-use Rattle.tree.specs.Shape.{noChunk}
 use Rattle.tree.specs.Chain.{chainOk}
 use Rattle.tree.specs.Tree.{treeOk}
-use Rattle.book.specs.Book.{limitsOf, chunkBytes, directoryOf, shapeOf, refusalOf}
-use Rattle.book.specs.declared.Refusal.{Refusal}
-use Rattle.opening.specs.Opened.{refusal, refusalAt, chunksThen, linkedBook, withHeader, opened}
+use Rattle.book.specs.Book.{limitsOf, chunkBytes, directoryOf, shapeOf}
+use Rattle.opening.specs.Opened.{chunksThen, linkedBook, withHeader, opened}
 use Rattle.opening.specs.Refusals.{ChunksGood, Told, head, chunk, chain, tree}
 use Rattle.opening.specs.declared.Opened.{Opened}
 use Rattle.opening.specs.declared.Opened.the-variants.{Book, Refused}
@@ -94,7 +94,7 @@ passing D (suc n) c x o e = go (eqb (faultOf (D c)) 0) refl (passing D n (c + 1)
     later f (follows q g) = follows q (λ i l h. elim (ℕ-discrete i c) [ yes y ↦ rw y f | no y ↦ g i (omega arith) (omega arith) ])
 
     go : (t : Bool) → eqb (faultOf (D c)) 0 ≡ t → (chunksThen D n (c + 1) o ≡ Refused x → Passing D n (c + 1) x o)
-        → cond t (chunksThen D n (c + 1) o) (refusalAt (faultOf (D c)) c) ≡ Refused x → Passing D (suc n) c x o
+        → cond t (chunksThen D n (c + 1) o) (Refused (refusalAt (faultOf (D c)) c)) ≡ Refused x → Passing D (suc n) c x o
     go true f ih q = later (eqb-true _ _ f) (ih q)
     go false f ih q =
         let y : record { number = faultOf (D c); chunk = c } ≡ x = cc in
@@ -108,11 +108,11 @@ links-told : (s : List ℕ) (r : Record) (x : Refusal) → headerOf s ≡ Good r
 unfolding linkedBook
 links-told s r x h g = go (chainOk (directoryOf s r) (shapeOf r)) refl (treeOk (directoryOf s r) (shapeOf r)) refl
   where
-    number-is : (n : ℕ) → refusal n ≡ Refused x → (x .number ≡ n) × (x .chunk ≡ noChunk)
+    number-is : (n : ℕ) → Refused (refusalOf n) ≡ Refused x → (x .number ≡ n) × (x .chunk ≡ noChunk)
     number-is n q = let y : refusalOf n ≡ x = cc in (sym (ap (λ (w : Refusal). w .number) y), sym (ap (λ (w : Refusal). w .chunk) y))
 
     go : (a : Bool) → chainOk (directoryOf s r) (shapeOf r) ≡ a → (b : Bool) → treeOk (directoryOf s r) (shapeOf r) ≡ b
-        → cond a (cond b (Book r) (refusal 14)) (refusal 13) ≡ Refused x → Told s x
+        → cond a (cond b (Book r) (Refused (refusalOf 14))) (Refused (refusalOf 13)) ≡ Refused x → Told s x
     go true p true t q = absurd (let z : _≡_ {A = ℕ} 0 1 = cc in omega arith)
     go true p false t q = let n = number-is 14 q in tree r h g p t (n .0) (n .1)
     go false p b t q = let n = number-is 13 q in chain r h g p (n .0) (n .1)
@@ -130,7 +130,7 @@ refusal-told s x e = go (headerOf s) refl e
     go : (y : CheckedHeader) → headerOf s ≡ y → withHeader y (λ r. chunksThen (directoryOf s r) (r .count) 0 (linkedBook s r)) ≡ Refused x → Told s x
     go (Good r) h q = passed r h (passing (directoryOf s r) (r .count) 0 x (linkedBook s r) q)
     go (CheckedHeader.Refused n) h q =
-        let y : record { number = n; chunk = 0xFFFFFFFF } ≡ x = cc in
+        let y : refusalOf n ≡ x = cc in
         let a : n ≡ x .number = ap (λ (w : Refusal). w .number) y in
         let t = header-refused s n h in
         head (h ∙ ap CheckedHeader.Refused a) (omega arith) (omega arith) (sym (ap (λ (w : Refusal). w .chunk) y))

@@ -9,6 +9,7 @@ use native.Mathlib.Decide.{ℕ-discrete}
 use native.Mathlib.Numerals.{add-one}
 use lib.Dec.{eqb}
 use borrow.Author.Tests.{eq-eqb, ne-eqb, eqb-true, eqb-false, lt-ltb}
+use Rattle.refusals.specs.Refusals.{refusalAt}
 use Rattle.chunk.specs.Chunk.{Parsed, bad, listing, index, faultOf}
 use Rattle.chunk.specs.Answer.{chunkOf}
 use Rattle.chunk.specs.declared.Chunk.{Chunk}
@@ -16,8 +17,9 @@ use Rattle.header.specs.declared.Record.{Record}
 use Rattle.tree.specs.Shape.{isListing, isIndex}
 use Rattle.tree.specs.Lists.{countBelow}
 use Rattle.book.specs.Book.{directoryOf, metChunk}
-use Rattle.opening.specs.Opened.{refusalAt, chunksThen}
+use Rattle.opening.specs.Opened.{chunksThen}
 use Rattle.opening.specs.declared.Opened.{Opened}
+use Rattle.opening.specs.declared.Opened.the-variants.{Refused}
 use Rattle.opening.specs.Passes.{numberOf, listingOne, surveyed}
 use Rattle.opening.specs.declared.Survey.{Survey}
 use Rattle.opening.specs.declared.Survey.the-variants.{Fault, Listings}
@@ -59,14 +61,14 @@ module _ (D : ℕ → Parsed) (n c l : ℕ) where
 
 -- ---- what the pass over all chunks tells
 
-pub survey-refuses : (D : ℕ → Parsed) (n c l m d : ℕ) (r : Opened) → Fault m d ≡ surveyed D n c l → refusalAt m d ≡ chunksThen D n c r
+pub survey-refuses : (D : ℕ → Parsed) (n c l m d : ℕ) (r : Opened) → Fault m d ≡ surveyed D n c l → Refused (refusalAt m d) ≡ chunksThen D n c r
 unfolding surveyed chunksThen
 survey-refuses D zero c l m d r e = absurd (let z : _≡_ {A = ℕ} 0 1 = cc in omega arith)
 survey-refuses D (suc n) c l m d r e = go (eqb (faultOf (D c)) 0) (survey-refuses D n (c + 1) (l + listingOne (chunkOf (D c))) m d r) e
   where
-    go : (t : Bool) → (Fault m d ≡ surveyed D n (c + 1) (l + listingOne (chunkOf (D c))) → refusalAt m d ≡ chunksThen D n (c + 1) r)
+    go : (t : Bool) → (Fault m d ≡ surveyed D n (c + 1) (l + listingOne (chunkOf (D c))) → Refused (refusalAt m d) ≡ chunksThen D n (c + 1) r)
         → Fault m d ≡ cond t (surveyed D n (c + 1) (l + listingOne (chunkOf (D c)))) (Fault (faultOf (D c)) c)
-        → refusalAt m d ≡ cond t (chunksThen D n (c + 1) r) (refusalAt (faultOf (D c)) c)
+        → Refused (refusalAt m d) ≡ cond t (chunksThen D n (c + 1) r) (Refused (refusalAt (faultOf (D c)) c))
     go true ih q = ih q
     go false ih q = let a : m ≡ faultOf (D c) = cc in let b : d ≡ c = cc in rw (a, b)
 

@@ -4,6 +4,7 @@ use Prim.Native.Nat.{ℕ, zero, suc, _+_}
 use mathlib.Core.Bool.{cond}
 use mathlib.Core.List.{List}
 use lib.Dec.{eqb}
+use Rattle.refusals.specs.Refusals.{refusalOf, refusalAt}
 use Rattle.chunk.specs.Chunk.{Parsed, faultOf}
 use Rattle.header.specs.Header.{headerOf}
 use Rattle.header.specs.declared.Record.{Record}
@@ -11,32 +12,25 @@ use Rattle.header.specs.declared.CheckedHeader.{CheckedHeader}
 use Rattle.header.specs.declared.CheckedHeader.the-variants.{Good}
 use Rattle.tree.specs.Chain.{chainOk}
 use Rattle.tree.specs.Tree.{treeOk}
-use Rattle.book.specs.Book.{directoryOf, shapeOf, refusalOf}
+use Rattle.book.specs.Book.{directoryOf, shapeOf}
 use Rattle.opening.specs.declared.Opened.{Opened}
 use Rattle.opening.specs.declared.Opened.the-variants.{Book, Refused}
 
--- a refusal that belongs to no chunk, and one of chunk c (RO7)
-abbrev pub refusal : ℕ → Opened
-refusal n = Refused (refusalOf n)
-
-abbrev pub refusalAt : ℕ → ℕ → Opened
-refusalAt n c = Refused (record { number = n; chunk = c })
-
--- the refusal of the first bad chunk among n from c on (RO2); else r
+-- the refusal of the first bad chunk among n from c on (RO2, RO7); else r
 unfoldable pub chunksThen : (ℕ → Parsed) → ℕ → ℕ → Opened → Opened
 chunksThen D zero c r = r
-chunksThen D (suc n) c r = cond (eqb (faultOf (D c)) 0) (chunksThen D n (c + 1) r) (refusalAt (faultOf (D c)) c)
+chunksThen D (suc n) c r = cond (eqb (faultOf (D c)) 0) (chunksThen D n (c + 1) r) (Refused (refusalAt (faultOf (D c)) c))
 
 -- chain, then tree (RO3), of a book whose head and chunks are good
 unfoldable pub linkedBook : List ℕ → Record → Opened
 linkedBook s r =
     cond (chainOk (directoryOf s r) (shapeOf r))
-    (cond (treeOk (directoryOf s r) (shapeOf r)) (Book r) (refusal 14))
-    (refusal 13)
+    (cond (treeOk (directoryOf s r) (shapeOf r)) (Book r) (Refused (refusalOf 14)))
+    (Refused (refusalOf 13))
 
 abbrev pub withHeader : CheckedHeader → (Record → Opened) → Opened
 withHeader (Good r) f = f r
-withHeader (CheckedHeader.Refused n) f = refusal n
+withHeader (CheckedHeader.Refused n) f = Refused (refusalOf n)
 
 unfoldable pub opened : List ℕ → Opened
 opened s = withHeader (headerOf s) (λ r. chunksThen (directoryOf s r) (r .count) 0 (linkedBook s r))

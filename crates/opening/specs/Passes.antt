@@ -8,6 +8,7 @@ use lib.ListN.{length}
 use lib.Dec.{eqb}
 use Rattle.names.specs.Names.{below}
 use Rattle.fields.specs.Same.{same}
+use Rattle.refusals.specs.Refusals.{noChunk}
 use Rattle.entries.specs.Entry.{itemAt, nameOf, withItem}
 use Rattle.chunk.specs.Chunk.{Parsed, faultOf}
 use Rattle.chunk.specs.Answer.{chunkOf}
@@ -16,7 +17,7 @@ use Rattle.chunk.specs.declared.Chunk.the-variants.{Refused, Listing, Index}
 use Rattle.seek.specs.declared.Hit.{Hit}
 use Rattle.seek.specs.declared.Hit.the-variants.{At, Nothing}
 use Rattle.header.specs.declared.Record.{Record}
-use Rattle.tree.specs.Shape.{Shape, noChunk, previousOf, nextOf, firstName, lastName, listingChunk}
+use Rattle.tree.specs.Shape.{Shape, previousOf, nextOf, firstName, lastName, listingChunk}
 use Rattle.tree.specs.Walk as W
 use Rattle.book.specs.Book.{limitsOf, chunkBytes, directoryOf}
 use Rattle.opening.specs.declared.Survey.{Survey}

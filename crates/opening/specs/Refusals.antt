@@ -4,15 +4,15 @@ use mathlib.Core.Path.{_≡_}
 use mathlib.Core.Bool.{true, false}
 use mathlib.Core.List.{List}
 use Prim.Native.Nat.{ℕ, _≤_, _<_}
+use Rattle.refusals.specs.Refusals.{noChunk}
+use Rattle.refusals.specs.declared.Refusal.{Refusal}
 use Rattle.chunk.specs.Chunk.{faultOf}
 use Rattle.header.specs.Header.{headerOf}
 use Rattle.header.specs.declared.Record.{Record}
 use Rattle.header.specs.declared.CheckedHeader.the-variants.{Good, Refused}
-use Rattle.tree.specs.Shape.{noChunk}
 use Rattle.tree.specs.Chain.{chainOk}
 use Rattle.tree.specs.Tree.{treeOk}
 use Rattle.book.specs.Book.{directoryOf, shapeOf}
-use Rattle.book.specs.declared.Refusal.{Refusal}
 
 -- no chunk below the count has a fault
 abbrev pub ChunksGood : List ℕ → Record → Type 0

@@ -3,20 +3,20 @@ ghost use mathlib.Core.Path.{_≡_};
 ghost use mathlib.Core.Bool.{true};
 ghost use Prim.Native.Nat.{_+_, _<_, _≤_};
 ghost use Rattle.fields.specs.Same.{same};
+ghost use Rattle.refusals.specs.Refusals.{noChunk};
 ghost use Rattle.names.specs.Names.{below};
-ghost use Rattle.tree.specs.Shape.{noChunk, firstName, lastName, listingChunk, indexChunk};
+ghost use Rattle.tree.specs.Shape.{firstName, lastName, listingChunk, indexChunk};
 ghost use Rattle.tree.specs.Tree.{top};
-ghost use Rattle.tree.specs.Walk.{chainRun, walk, arrived};
-ghost use Rattle.tree.specs.Walk.{listings as listingsOf};
+ghost use Rattle.tree.specs.Walk.{chainRun, walk, arrived, listings as listingsOf};
 ghost use Rattle.book.specs.Book.{directoryOf, shapeOf};
 ghost use Rattle.opening.specs.Opened.{chunksThen, linkedBook, opened};
 ghost use Rattle.opening.specs.Passes.{GoodBook, numberOf, listingOne, surveyed, linkOf, FirstHit, leafOf, childAt, progressOf};
-use book::Refusal;
 use chunk::Chunk;
 use entries::Item;
 use entries::Limits;
 use header::CheckedHeader;
 use header::Record;
+use refusals::Refusal;
 use seek::Hit;
 
 // The record of a book that keeps every rule, or the first refusal.
@@ -179,7 +179,7 @@ fn link_from(file: &[u8], book: Record, previous: u64, c: u64) -> Link
         return Link::Broken;
     }
     let next = fields::le32(bytes, 16) as u64;
-    if next == 0xFFFF_FFFF {
+    if next == refusals::no_chunk() as u64 {
         return Link::Last;
     }
     if !is_listing(file, book, next) {
@@ -198,7 +198,7 @@ fn chain_linked(file: &[u8], book: Record, listings: u64) -> bool
     ensures { λ r. ⌜ r ≡ chainRun (directoryOf (now (file .entry)) book) (shapeOf book) listings noChunk (book .first) ⌝ }
 {
     let last = book.last;
-    let mut previous: u64 = 0xFFFF_FFFF;
+    let mut previous = refusals::no_chunk() as u64;
     let mut c = book.first;
     let mut left = listings;
     while 0 < left {
@@ -308,7 +308,7 @@ fn tree_right(file: &[u8], book: Record, indexes: u64) -> bool
     ) {
         Progress::Stopped => false,
         Progress::Going(expected, left) => {
-            if expected == 0xFFFF_FFFF {
+            if expected == refusals::no_chunk() as u64 {
                 left == 0
             } else {
                 false
@@ -323,16 +323,10 @@ fn open_links(file: &[u8], book: Record, listings: u64) -> Opened
     ensures { λ r. ⌜ r ≡ linkedBook (now (file .entry)) book ⌝ }
 {
     if !chain_linked(file, book, listings) {
-        return Opened::Refused(Refusal {
-            number: 13,
-            chunk: 0xFFFF_FFFF,
-        });
+        return Opened::Refused(refusals::refuse(13));
     }
     if !tree_right(file, book, book.count - listings) {
-        return Opened::Refused(Refusal {
-            number: 14,
-            chunk: 0xFFFF_FFFF,
-        });
+        return Opened::Refused(refusals::refuse(14));
     }
     Opened::Book(book)
 }
@@ -343,7 +337,7 @@ fn open_chunks(file: &[u8], book: Record) -> Opened
     ensures { λ r. ⌜ r ≡ chunksThen (directoryOf (now (file .entry)) book) (book .count) 0 (linkedBook (now (file .entry)) book) ⌝ }
 {
     match survey_chunks(file, book) {
-        Survey::Fault(number, chunk) => Opened::Refused(Refusal { number, chunk }),
+        Survey::Fault(number, chunk) => Opened::Refused(refusals::refuse_at(number, chunk)),
         Survey::Listings(n) => open_links(file, book, n),
     }
 }
@@ -354,9 +348,6 @@ pub fn open(file: &[u8]) -> Opened
 {
     match header::read(file) {
         CheckedHeader::Good(book) => open_chunks(file, book),
-        CheckedHeader::Refused(number) => Opened::Refused(Refusal {
-            number,
-            chunk: 0xFFFF_FFFF,
-        }),
+        CheckedHeader::Refused(number) => Opened::Refused(refusals::refuse(number)),
     }
 }

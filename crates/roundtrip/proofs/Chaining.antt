@@ -8,11 +8,12 @@ use native.Mathlib.Omega.{arith}
 use lib.ListN.{length}
 use lib.Dec.{eqb}
 use borrow.Author.Tests.{lt-ltb, le-ltb, eq-eqb, ne-eqb}
+use Rattle.refusals.specs.Refusals.{noChunk}
 use Rattle.names.specs.Names.{below}
 use Rattle.chunk.specs.Chunk.{Parsed}
 use Rattle.tree.specs.Lists.{member, everyBelow}
 use Rattle.tree.specs.Shape as shape
-use Rattle.tree.specs.Shape.{Shape, noChunk, isListing, lastName, listingChunk}
+use Rattle.tree.specs.Shape.{Shape, isListing, lastName, listingChunk}
 use Rattle.tree.specs.Chain.{chainFrom, chain, linked, chainOk}
 use Rattle.tree.proofs.Chunks.{is-listing}
 use Rattle.entries.specs.Stored.{Stored, rises}

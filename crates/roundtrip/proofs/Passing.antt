@@ -8,8 +8,9 @@ use native.Mathlib.Omega.{arith}
 use native.Mathlib.Decide.{ℕ-discrete}
 use lib.Dec.{ltb, eqb}
 use borrow.Author.Tests.{le-leb, lt-ltb, eq-eqb, ne-eqb}
+use Rattle.refusals.specs.Refusals.{noChunk}
 use Rattle.file_header.specs.FileHeader.{versionRight, lengthsRight, placesRight, contentRight, sectionsRight}
-use Rattle.directory_header.specs.DirectoryHeader.{none, boundsRight, endsRight, rootRight, directoryRight}
+use Rattle.directory_header.specs.DirectoryHeader.{boundsRight, endsRight, rootRight, directoryRight}
 use Rattle.layout.specs.Headers.{headLength}
 use Rattle.layout.specs.Layout.{rootOf}
 use Rattle.roundtrip.proofs.Fields.{FileRead, DirectoryRead}
@@ -29,7 +30,7 @@ module _ (t g n : ℕ) (h : List ℕ) (f : FileRead t g n h) where
 -- ---- the directory's numbers
 
 root-pass : (p n : ℕ) → (p ≡ 1 → n ≡ 1) → (¬ (p ≡ 1) → 1 < n)
-    → cond (eqb p 1) (eqb n 1 && (eqb (rootOf p n) none || eqb (rootOf p n) 0)) (not (eqb n 1) && ltb (rootOf p n) n) ≡ true
+    → cond (eqb p 1) (eqb n 1 && (eqb (rootOf p n) noChunk || eqb (rootOf p n) 0)) (not (eqb n 1) && ltb (rootOf p n) n) ≡ true
 unfolding rootOf
 root-pass p n one more =
     elim (ℕ-discrete p 1) [

@@ -5,10 +5,11 @@ use mathlib.Core.Path.{_≡_, sym, ap, _∙_}
 use mathlib.Core.Logic.{_⊎_}
 use mathlib.Core.List.{List}
 use Prim.Native.Nat.{ℕ, _≤_}
+use Rattle.refusals.specs.Refusals.{refusalOf}
+use Rattle.refusals.specs.declared.Refusal.{Refusal}
 use Rattle.header.specs.declared.Record.{Record}
 use Rattle.tree.proofs.Reading.{plain-same}
-use Rattle.book.specs.Book.{directoryOf, shapeOf, refusalOf}
-use Rattle.book.specs.declared.Refusal.{Refusal}
+use Rattle.book.specs.Book.{directoryOf, shapeOf}
 use Rattle.opening.specs.Opened.{opened}
 use Rattle.opening.specs.declared.Opened.the-variants.{Book}
 use Rattle.opening.proofs.Accepted.{opened-book}

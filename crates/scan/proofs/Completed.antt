@@ -6,6 +6,7 @@ use mathlib.Core.Bool.{true, false≢true}
 use mathlib.Core.List.{List}
 use Prim.Native.Nat.{ℕ}
 use native.Mathlib.Omega.{arith}
+use Rattle.refusals.specs.declared.Refusal.{Refusal}
 use Rattle.names.specs.Names.{askable}
 use Rattle.header.specs.Header.{headerOf}
 use Rattle.header.specs.declared.Record.{Record}
@@ -14,7 +15,6 @@ use Rattle.tree.specs.Descent.{Outcome, found, absent, refused}
 use Rattle.tree.specs.Demand.{PlainDemand}
 use Rattle.tree.proofs.Reading.{plain-demand}
 use Rattle.book.specs.Book.{directoryOf, shapeOf, reportOf}
-use Rattle.book.specs.declared.Refusal.{Refusal}
 use Rattle.opening.specs.Opened.{opened}
 use Rattle.opening.specs.Refusals.{Told, head, chunk, chain, tree}
 use Rattle.opening.specs.declared.Opened.{Opened}

@@ -3,13 +3,13 @@
 use mathlib.Core.Path.{_≡_, sym, ap, _∙_}
 use mathlib.Core.List.{List}
 use Prim.Native.Nat.{ℕ, _-_, _≤_, _<_}
+use Rattle.refusals.specs.Refusals.{noChunk, refusalOf}
 use Rattle.seek.proofs.Steps.{some-left, none-left}
 use Rattle.header.specs.declared.Record.{Record}
-use Rattle.tree.specs.Shape.{noChunk}
 use Rattle.tree.specs.Descent.{Outcome}
 use Rattle.tree.specs.Walk.{plainFrom}
 use Rattle.tree.proofs.Plain.{from-here, from-end, from-on, from-barred, from-none}
-use Rattle.book.specs.Book.{directoryOf, shapeOf, refusalOf}
+use Rattle.book.specs.Book.{directoryOf, shapeOf}
 use Rattle.book.specs.Search.{searchIn}
 use Rattle.book.specs.declared.Report.{Report}
 use Rattle.book.specs.declared.Search.{Search}

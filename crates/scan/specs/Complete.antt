@@ -5,13 +5,13 @@ use mathlib.Core.Logic.{_↔_, _≢_}
 use mathlib.Core.Bool.{true}
 use mathlib.Core.List.{List}
 use Prim.Native.Nat.{ℕ}
+use Rattle.refusals.specs.declared.Refusal.{Refusal}
 use Rattle.names.specs.Names.{askable}
 use Rattle.chunk.specs.Chunk.{Entry}
 use Rattle.header.specs.declared.Record.{Record}
 use Rattle.tree.specs.Chain.{chainOk}
 use Rattle.book.specs.Book.{directoryOf, shapeOf, bookFits, reportOf}
 use Rattle.book.specs.declared.Report.{Report}
-use Rattle.book.specs.declared.Refusal.{Refusal}
 use Rattle.lookup.specs.Complete.{HoldsIn}
 use Rattle.lookup.specs.declared.Reply.{Reply}
 use Rattle.lookup.specs.declared.Reply.the-variants.{Found, Absent, Refused}

@@ -17,16 +17,16 @@ fn scan_chain(file: &[u8], book: Record, name: &[u8]) -> Reply
         match book::search_in(file, book, name, c) {
             Search::Found(_, x) => return Reply::Found(x),
             Search::Next(_, next) => {
-                if next == tree::no_chunk() {
+                if next == refusals::no_chunk() {
                     return Reply::Absent;
                 }
                 c = next as u64;
             }
-            Search::Barred => return Reply::Refused(book::refuse(17)),
+            Search::Barred => return Reply::Refused(refusals::refuse(17)),
         }
         left -= 1;
     }
-    Reply::Refused(book::refuse(17))
+    Reply::Refused(refusals::refuse(17))
 }
 
 // The entry of a name, found along the chain alone. On a book that opens it answers what lookup does; where only the index is broken it still finds
@@ -39,10 +39,10 @@ pub fn scan(file: &[u8], book: Record, name: &[u8]) -> Reply
     let good_name = names::is_askable(name);
     let good_record = book::fits(file, book);
     if !good_name {
-        return Reply::Refused(book::refuse(15));
+        return Reply::Refused(refusals::refuse(15));
     }
     if !good_record {
-        return Reply::Refused(book::refuse(17));
+        return Reply::Refused(refusals::refuse(17));
     }
     scan_chain(file, book, name)
 }

@@ -8,10 +8,11 @@ use lib.Dec.{eqb, eqb·suc-suc}
 use lib.ListN.{length}
 use borrow.Author.Tests.{eqb-true}
 use Rattle.fields.proofs.Tests.{and-both, eqb-flip}
+use Rattle.refusals.specs.Refusals.{noChunk}
 use Rattle.names.specs.Names.{below}
 use Rattle.chunk.specs.Chunk.{Parsed}
 use Rattle.tree.specs.Lists.{member, everyBelow}
-use Rattle.tree.specs.Shape.{Shape, noChunk, isListing, previousOf, nextOf, firstName, lastName, listingChunk}
+use Rattle.tree.specs.Shape.{Shape, isListing, previousOf, nextOf, firstName, lastName, listingChunk}
 use Rattle.tree.specs.Chain.{chainFrom, chain, linked, chainOk}
 use Rattle.tree.specs.Walk.{listings, chainRun, chainRunOk}
 use Rattle.tree.proofs.Lists.{onTest, same-test}

@@ -10,10 +10,11 @@ use Prim.Native.Nat.{ℕ, zero, suc}
 use lib.ListN.{length}
 use Rattle.fields.proofs.Same.{same-true}
 use Rattle.fields.proofs.Tests.{never, and-both}
+use Rattle.refusals.specs.Refusals.{noChunk}
 use Rattle.chunk.specs.Chunk.{Entry, Parsed}
 use Rattle.seek.specs.Seek.{nth}
 use Rattle.tree.specs.Lists.{Each}
-use Rattle.tree.specs.Shape.{Shape, noChunk, firstName}
+use Rattle.tree.specs.Shape.{Shape, firstName}
 use Rattle.tree.specs.Chain.{chain, entriesOf, chainEntries}
 use Rattle.tree.specs.Tree.{top, leaves, shaped, treeOk}
 use Rattle.tree.specs.Descent.{found, absent, refused, outcomeFrom, trailFrom, outcome, trail}

@@ -8,9 +8,10 @@ use native.Mathlib.Omega.{arith}
 use lib.Dec.{eqb}
 use Rattle.fields.specs.Same.{same}
 use Rattle.fields.proofs.Same.{same-self}
+use Rattle.refusals.specs.Refusals.{noChunk}
 use Rattle.chunk.specs.Chunk.{Parsed}
 use Rattle.tree.specs.Lists.{member}
-use Rattle.tree.specs.Shape.{Shape, noChunk, isListing, isIndex, nextOf, listingChunk}
+use Rattle.tree.specs.Shape.{Shape, isListing, isIndex, nextOf, listingChunk}
 use Rattle.tree.specs.Chain.{chainFrom, chain, chainOk}
 use Rattle.tree.specs.Tree.{top, leaves, indexChunks, shaped, treeOk}
 use Rattle.tree.proofs.Lists.{onTest, below-every}

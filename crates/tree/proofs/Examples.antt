@@ -7,11 +7,12 @@ use Prim.Native.Nat.{ℕ, zero, suc, _<_}
 use native.Mathlib.Omega.{arith}
 use lib.ListN.{length, getD}
 use Rattle.fields.specs.Same.{same}
+use Rattle.refusals.specs.Refusals.{noChunk}
 use Rattle.names.specs.Order.{byNumber, byElement}
 use Rattle.names.specs.Names.{folded, compared, below, matches}
 use Rattle.chunk.specs.Chunk.{Entry, Parsed, bad, listing, index, rising, entriesIn}
 use Rattle.seek.specs.Seek.{lookup, choice, nth, final}
-use Rattle.tree.specs.Shape.{Shape, noChunk, isListing, isIndex, listingChunk, indexChunk, GoodChunks}
+use Rattle.tree.specs.Shape.{Shape, isListing, isIndex, listingChunk, indexChunk, GoodChunks}
 use Rattle.tree.specs.Chain.{chainFrom, chain, linked, chainOk}
 use Rattle.tree.specs.Tree.{top, leaves, indexChunks, shaped, treeOk}
 use Rattle.tree.specs.Walk.{chainRun, chainRunOk, walk, treeWalkOk}

@@ -11,12 +11,13 @@ use lib.Dec.{eqb}
 use lib.ListN.{length}
 use borrow.Author.Tests.{eqb-true, eq-eqb}
 use Rattle.fields.proofs.Tests.{never, and-both}
+use Rattle.refusals.specs.Refusals.{noChunk}
 use Rattle.names.specs.Names.{below}
 use Rattle.names.proofs.Laws.{below-self}
 use Rattle.chunk.specs.Chunk.{Entry, Parsed, rising, entriesIn}
 use Rattle.seek.specs.Seek.{nth}
 use Rattle.tree.specs.Lists.{In, Each, Distinct, member, everyBelow}
-use Rattle.tree.specs.Shape.{Shape, noChunk, isListing, previousOf, nextOf, firstName, lastName, listingChunk, GoodChunks}
+use Rattle.tree.specs.Shape.{Shape, isListing, previousOf, nextOf, firstName, lastName, listingChunk, GoodChunks}
 use Rattle.tree.specs.Chain.{chainFrom, chain, entriesOf, chainEntries, linked, chainOk}
 use Rattle.tree.specs.Demand.{Listed}
 use Rattle.tree.proofs.Lists.{first-of, onTest, implied, in-flat, member-in, every-below, each-right, each-apart}

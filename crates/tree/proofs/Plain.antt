@@ -6,10 +6,11 @@ use mathlib.Core.List.{List, [], _∷_, _++_, map}
 use Prim.Native.Nat.{ℕ, suc}
 use borrow.Author.Tests.{eq-eqb, ne-eqb}
 use Rattle.fields.proofs.Tests.{never}
+use Rattle.refusals.specs.Refusals.{noChunk}
 use Rattle.names.specs.Names.{matches}
 use Rattle.chunk.specs.Chunk.{Entry, Parsed, entriesIn}
 use Rattle.seek.specs.Seek.{Sought, lookup}
-use Rattle.tree.specs.Shape.{Shape, noChunk, nextOf, listingChunk}
+use Rattle.tree.specs.Shape.{Shape, nextOf, listingChunk}
 use Rattle.tree.specs.Descent.{found, absent, refused}
 use Rattle.tree.specs.Reading.{Held, heldAt, readFrom, reading, firstEqual, plain}
 use Rattle.tree.specs.Walk.{plainFrom}

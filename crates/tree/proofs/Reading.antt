@@ -11,10 +11,11 @@ use native.Mathlib.Nat.{mul-suc}
 use lib.Dec.{eqb}
 use lib.ListN.{length, length-append}
 use Rattle.fields.proofs.Tests.{never}
+use Rattle.refusals.specs.Refusals.{noChunk}
 use Rattle.names.specs.Names.{matches}
 use Rattle.chunk.specs.Chunk.{Entry, Parsed, entriesIn}
 use Rattle.tree.specs.Lists.{In}
-use Rattle.tree.specs.Shape.{Shape, noChunk, nextOf}
+use Rattle.tree.specs.Shape.{Shape, nextOf}
 use Rattle.tree.specs.Chain.{chainFrom, chain, linked, chainOk, entriesOf}
 use Rattle.tree.specs.Descent.{found, absent, refused, outcome}
 use Rattle.tree.specs.Demand.{GoodDirectory, Holds, PlainDemand}

@@ -9,13 +9,14 @@ use native.Mathlib.Numerals.{sub-one}
 use lib.Dec.{eqb}
 use borrow.Author.Tests.{eq-eqb, ne-eqb}
 use Rattle.fields.specs.Same.{same}
+use Rattle.refusals.specs.Refusals.{noChunk}
 use Rattle.names.specs.Names.{below}
 use Rattle.chunk.specs.Chunk.{Entry, Parsed, entriesIn}
 use Rattle.seek.specs.Seek.{Sought, soughtOf, childOf, lookup}
 use Rattle.seek.specs.declared.Child.the-variants.{Below, Nowhere}
 use Rattle.seek.specs.declared.Hit.{Hit}
 use Rattle.seek.specs.declared.Hit.the-variants.{At, Nothing}
-use Rattle.tree.specs.Shape.{Shape, noChunk, previousOf, nextOf, firstName, lastName, listingChunk, indexChunk}
+use Rattle.tree.specs.Shape.{Shape, previousOf, nextOf, firstName, lastName, listingChunk, indexChunk}
 use Rattle.tree.specs.Walk.{Progress, stopped, going, intoChild, visit, walk, chainRun}
 use Rattle.tree.specs.Descent.{found, absent, refused, answer, childFor, onward, outcomeFrom, trailFrom}
 use Rattle.tree.proofs.Lists.{onTest}

@@ -13,9 +13,10 @@ use borrow.Author.Tests.{eqb-true, eq-eqb}
 use Rattle.fields.specs.Same.{same}
 use Rattle.fields.proofs.Same.{same-true, same-self}
 use Rattle.fields.proofs.Tests.{never}
+use Rattle.refusals.specs.Refusals.{noChunk}
 use Rattle.chunk.specs.Chunk.{Entry, Parsed, entriesIn}
 use Rattle.tree.specs.Lists.{In, Distinct, allOf, member, everyBelow}
-use Rattle.tree.specs.Shape.{Shape, noChunk, isIndex, nextOf, firstName, listingChunk, indexChunk, GoodChunks}
+use Rattle.tree.specs.Shape.{Shape, isIndex, nextOf, firstName, listingChunk, indexChunk, GoodChunks}
 use Rattle.tree.specs.Chain.{chainFrom, chain, linked, chainOk}
 use Rattle.tree.specs.Tree.{top, leaves, indexChunks, shaped, treeOk}
 use Rattle.tree.specs.Walk.{indexes, chainRunOk, Progress, stopped, going, arrived, intoChild, visit, walk, treeWalkOk}

@@ -4,10 +4,11 @@ use mathlib.Core.Bool.{Bool, false, cond, not, _&&_, _||_}
 use mathlib.Core.List.{List, [], _∷_, flatMap}
 use Prim.Native.Nat.{ℕ, zero, suc}
 use lib.Dec.{eqb}
+use Rattle.refusals.specs.Refusals.{noChunk}
 use Rattle.names.specs.Names.{below}
 use Rattle.chunk.specs.Chunk.{Entry, Parsed, entriesIn}
 use Rattle.tree.specs.Lists.{member, everyBelow}
-use Rattle.tree.specs.Shape.{Shape, noChunk, isListing, previousOf, nextOf, firstName, lastName, listingChunk}
+use Rattle.tree.specs.Shape.{Shape, isListing, previousOf, nextOf, firstName, lastName, listingChunk}
 
 -- the chunk numbers from c on along the next numbers, at most n of them
 unfoldable pub chainFrom : (ℕ → Parsed) → ℕ → ℕ → List ℕ

@@ -5,9 +5,10 @@ use mathlib.Core.Bool.{Bool, true, false, cond}
 use mathlib.Core.List.{List, [], _∷_, _++_, map, flatMap}
 use Prim.Native.Nat.{ℕ, zero, suc}
 use lib.Dec.{eqb}
+use Rattle.refusals.specs.Refusals.{noChunk}
 use Rattle.names.specs.Names.{matches}
 use Rattle.chunk.specs.Chunk.{Entry, Parsed, entriesIn}
-use Rattle.tree.specs.Shape.{Shape, noChunk, nextOf, listingChunk}
+use Rattle.tree.specs.Shape.{Shape, nextOf, listingChunk}
 use Rattle.tree.specs.Descent.{Outcome, found, absent, refused}
 
 -- an entry, with the chunk that it stands in

@@ -6,6 +6,7 @@ use mathlib.Core.List.{List, []}
 use Prim.Native.Nat.{ℕ, _<_}
 use lib.Dec.{ltb}
 use lib.ListN.{length}
+use Rattle.refusals.specs.Refusals.{noChunk}
 use Rattle.chunk.specs.Chunk.{Parsed, bad, listing, index, rising, entriesIn, isKind}
 use Rattle.seek.specs.Seek.{absent, nth, nameIn, final}
 
@@ -17,10 +18,6 @@ pub record Shape : Type 0 where
   pub root : ℕ
   pub first : ℕ
   pub last : ℕ
-
--- the chunk number that stands for none
-abbrev pub noChunk : ℕ
-noChunk = 0xFFFFFFFF
 
 -- ---- what is asked of a chunk
 

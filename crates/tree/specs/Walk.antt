@@ -7,10 +7,11 @@ use mathlib.Core.List.{List, [], _∷_}
 use Prim.Native.Nat.{ℕ, zero, suc}
 use lib.Dec.{eqb}
 use Rattle.fields.specs.Same.{same}
+use Rattle.refusals.specs.Refusals.{noChunk}
 use Rattle.names.specs.Names.{below}
 use Rattle.chunk.specs.Chunk.{Entry, Parsed, entriesIn}
 use Rattle.tree.specs.Lists.{countBelow}
-use Rattle.tree.specs.Shape.{Shape, noChunk, isListing, isIndex, previousOf, nextOf, firstName, lastName, listingChunk, indexChunk}
+use Rattle.tree.specs.Shape.{Shape, isListing, isIndex, previousOf, nextOf, firstName, lastName, listingChunk, indexChunk}
 use Rattle.tree.specs.Tree.{top}
 use Rattle.tree.specs.Descent.{Outcome}
 use Rattle.tree.specs.Reading.{readFrom, firstEqual}

@@ -8,6 +8,7 @@ use native.Mathlib.Omega.{arith}
 use lib.Dec.{ltb}
 use borrow.Author.Tests.{ltb-true}
 use Rattle.fields.proofs.Tests.{and-both}
+use Rattle.refusals.specs.Refusals.{refusalOf}
 use Rattle.entries.specs.Entry.{itemAt, withItem}
 use Rattle.entries.specs.declared.Place.{Place}
 use Rattle.entries.specs.declared.Item.{Item}
@@ -16,7 +17,7 @@ use Rattle.header.specs.declared.Record.{Record}
 use Rattle.tree.specs.Shape.{listingChunk}
 use Rattle.tree.proofs.Lists.{onTest}
 use Rattle.tree.proofs.Chunks.{listing-chunk}
-use Rattle.book.specs.Book.{limitsOf, chunkBytes, directoryOf, shapeOf, bookFits, refusalOf}
+use Rattle.book.specs.Book.{limitsOf, chunkBytes, directoryOf, shapeOf, bookFits}
 use Rattle.book.proofs.Read.{entries-some, entries-few}
 use Rattle.walk.specs.Walk.{inChunk, afterOf, weight, isOver, onEntered, entered, entryHere, comingAt}
 use Rattle.walk.specs.declared.Walk.{Walk}

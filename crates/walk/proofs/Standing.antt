@@ -10,6 +10,7 @@ use lib.Dec.{eqb}
 use borrow.Author.Tests.{lt-ltb, le-ltb}
 use Rattle.fields.proofs.Tests.{and-yes, and-no}
 use Rattle.fields.proofs.Parts.{part-inside}
+use Rattle.refusals.specs.Refusals.{noChunk}
 use Rattle.entries.specs.Entry.{itemAt}
 use Rattle.entries.specs.declared.Place.{Place}
 use Rattle.entries.specs.declared.Item.the-variants.{Good}
@@ -17,7 +18,7 @@ use Rattle.entries.proofs.Laws.{item-inside}
 use Rattle.chunk.specs.Chunk.{Entry, all, entryOf, entriesAt, tailOf, entriesIn}
 use Rattle.chunk.proofs.Accepted.{entries-more, entries-none}
 use Rattle.header.specs.declared.Record.{Record}
-use Rattle.tree.specs.Shape.{noChunk, isListing, nextOf, listingChunk}
+use Rattle.tree.specs.Shape.{isListing, nextOf, listingChunk}
 use Rattle.tree.specs.Reading.{Held, heldAt, Reading, ended, cut, andThen, heldIn, readFrom, reading}
 use Rattle.tree.proofs.Lists.{onTest}
 use Rattle.tree.proofs.Chunks.{listing-chunk}

@@ -4,11 +4,12 @@ use Prim.Native.Nat.{ℕ}
 use mathlib.Core.Path.{_≡_}
 use mathlib.Core.Bool.{Bool, cond}
 use mathlib.Core.List.{List, [], _∷_}
+use Rattle.refusals.specs.Refusals.{refusalOf}
 use Rattle.entries.specs.declared.Place.{Place}
 use Rattle.chunk.specs.Chunk.{entryOf}
 use Rattle.header.specs.declared.Record.{Record}
 use Rattle.tree.specs.Reading.{Held, heldAt, Reading, cut, reading}
-use Rattle.book.specs.Book.{chunkBytes, directoryOf, shapeOf, bookFits, reportOf, reportAt, ownOf, ownAt, refusalOf}
+use Rattle.book.specs.Book.{chunkBytes, directoryOf, shapeOf, bookFits, reportOf, reportAt, ownOf, ownAt}
 use Rattle.walk.specs.Walk.{afterOf, comingAt, nameHere}
 use Rattle.walk.specs.declared.Walk.{Walk}
 use Rattle.walk.specs.declared.Coming.the-variants.{Entry, End, Refused}

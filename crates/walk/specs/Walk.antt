@@ -6,13 +6,14 @@ use mathlib.Core.List.{List}
 use lib.ListN.{length}
 use lib.Dec.{ltb, eqb}
 use Rattle.fields.specs.Part.{partOf}
+use Rattle.refusals.specs.Refusals.{noChunk, refusalOf}
+use Rattle.refusals.specs.declared.Refusal.{Refusal}
 use Rattle.entries.specs.Entry.{itemAt, withItem}
 use Rattle.entries.specs.declared.Place.{Place}
 use Rattle.chunk.specs.Chunk.{Parsed, entriesIn}
 use Rattle.header.specs.declared.Record.{Record}
-use Rattle.tree.specs.Shape.{noChunk, nextOf, listingChunk}
-use Rattle.book.specs.Book.{limitsOf, chunkBytes, directoryOf, shapeOf, bookFits, refusalOf}
-use Rattle.book.specs.declared.Refusal.{Refusal}
+use Rattle.tree.specs.Shape.{nextOf, listingChunk}
+use Rattle.book.specs.Book.{limitsOf, chunkBytes, directoryOf, shapeOf, bookFits}
 use Rattle.walk.specs.declared.Walk.{Walk}
 use Rattle.walk.specs.declared.Entered.{Entered}
 use Rattle.walk.specs.declared.Entered.the-variants.{Inside, Over, Barred}

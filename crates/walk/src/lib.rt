@@ -2,14 +2,14 @@
 ghost use mathlib.Core.Path.{_≡_};
 ghost use mathlib.Core.List.{List};
 ghost use Prim.Native.Nat.{ℕ};
-ghost use Rattle.book.specs.Book.{refusalOf};
+ghost use Rattle.refusals.specs.Refusals.{refusalOf};
 ghost use Rattle.walk.specs.Walk.{walkStart, isOver, entered, entryHere, comingAt, afterOf, nameHere};
 ghost use Rattle.walk.specs.Exact.{WalkExact};
-use book::Refusal;
 use chunk::Chunk;
 use entries::Item;
 use entries::Place;
 use header::Record;
+use refusals::Refusal;
 
 // The chunk that is being read, the place of its next entry and how many entries are left in it; the chunk that follows, and how many chunks may still be entered.
 pub struct Walk {
@@ -38,14 +38,14 @@ pub enum Coming {
 fn no_reading() -> Refusal
     ensures { λ r. ⌜ r ≡ refusalOf 17 ⌝ }
 {
-    book::refuse(17)
+    refusals::refuse(17)
 }
 
 // Whether a chunk was entered and none follows it.
 fn is_over(w: Walk, book: Record) -> bool
     ensures { λ r. ⌜ r ≡ isOver book w ⌝ }
 {
-    if w.next == tree::no_chunk() as u64 {
+    if w.next == refusals::no_chunk() as u64 {
         w.more < book.count
     } else {
         false
@@ -99,7 +99,7 @@ impl Walk {
         ensures exact { λ r. ⌜ ((s : List ℕ) → WalkExact s book r) ⌝ }
     {
         Walk {
-            chunk: tree::no_chunk() as u64,
+            chunk: refusals::no_chunk() as u64,
             at: 0,
             left: 0,
             next: book.first,

@@ -11,6 +11,7 @@ use lib.Dec.{ltb, leb}
 use borrow.Author.Tests.{le-leb, lt-leb, leb-true}
 use Rattle.fields.proofs.Put.{sets-parts}
 use Rattle.fields.proofs.Tests.{and-both, and-no}
+use Rattle.refusals.specs.Refusals.{refusalOf}
 use Rattle.chunk.specs.Chunk.{spacingOf}
 use Rattle.entries.specs.Stored.{Stored, storedOf}
 use Rattle.source.specs.Input.{given, inputRight}
@@ -25,10 +26,10 @@ use Rattle.layout.proofs.Small.{small-is}
 use Rattle.layout.proofs.Cut.{Cut, takes-told}
 use Rattle.roundtrip.specs.RoundTrip.{newBook, RoundTrip}
 use Rattle.roundtrip.proofs.RoundTrips.{round-trip}
-use Rattle.writer.specs.Head.{refusal, written, outputFor, Worth, ShortInput}
+use Rattle.writer.specs.Head.{written, outputFor, Worth, ShortInput}
 use Rattle.writer.specs.Plan.{limits, Made, LevelFits, IndexFits, indexOf, headersOf, Ready}
 use Rattle.writer.specs.declared.Written.{Written}
-use Rattle.writer.specs.declared.Written.the-variants.{Length}
+use Rattle.writer.specs.declared.Written.the-variants.{Length, Refused}
 use Rattle.layout.proofs.Sizes.{length-file, length-section, length-directory}
 use Rattle.writer.proofs.Lengths.{flatten-append, length-level}
 
@@ -146,16 +147,16 @@ module _ (s : List ℕ) (density time language content : ℕ) (out : List ℕ) w
   abbrev Answers : Written → List ℕ → Type 0
   Answers r o = (r ≡ written s density content room) × ((o ≡ outputFor r head out) × (Worth r density time language content s o × ShortInput r content s))
 
-  pub answer-18 : (r : Written) → r ≡ refusal 18 → takes density content s ≡ false → Answers r out
+  pub answer-18 : (r : Written) → r ≡ Refused (refusalOf 18) → takes density content s ≡ false → Answers r out
   unfolding written
   answer-18 r e h = rw e (rw h, (refl, (tt, tt)))
 
-  pub answer-19 : (r : Written) → r ≡ refusal 19 → takes density content s ≡ true → smallEnough (layoutFor density content s) ≡ false → Answers r out
+  pub answer-19 : (r : Written) → r ≡ Refused (refusalOf 19) → takes density content s ≡ true → smallEnough (layoutFor density content s) ≡ false → Answers r out
   unfolding written
   answer-19 r e h k = rw e (rw (h, k), (refl, (tt, tt)))
 
   module _ (h : takes density content s ≡ true) (small : smallEnough (layoutFor density content s) ≡ true) (count : ℕ) (c : count ≡ chunkCount (layoutFor density content s)) where
-    pub answer-20 : (r : Written) → r ≡ refusal 20 → room < headLength count → Answers r out
+    pub answer-20 : (r : Written) → r ≡ Refused (refusalOf 20) → room < headLength count → Answers r out
     unfolding written
     answer-20 r e short = rw e (rw (h, small, ← c, lt-leb (headLength count) room short), (refl, (tt, tt)))
 

@@ -8,7 +8,7 @@ use native.Mathlib.Omega.{arith}
 use Rattle.fields.specs.Le.{bytes}
 use Rattle.file_header.specs.FileHeader.{fileTag, fileGuid}
 use Rattle.compose.specs.NewChunk.{wordBytes}
-use Rattle.layout.specs.Headers.{fileHeader, sectionZero, directoryHeader}
+use Rattle.layout.specs.Headers.{fileHeader, sectionZero, directoryHeader, unknownWord}
 
 -- ---- eight bytes as two numbers of four
 
@@ -58,8 +58,8 @@ section-words size =
     sym (ap F (eight size))
 
 pub directory-words : (language density depth root last count : ℕ)
-    → wordBytes (0x5053_5449 ∷ 1 ∷ 0x54 ∷ 0x0A ∷ 4096 ∷ density ∷ depth ∷ root ∷ 0 ∷ last ∷ 0xFFFF_FFFF ∷ count ∷ language
-    ∷ 0x5D02_926A ∷ 0x11D0_212E ∷ 0xA000_F99D ∷ 0xECE6_22C9 ∷ 0x54 ∷ 0xFFFF_FFFF ∷ 0xFFFF_FFFF ∷ 0xFFFF_FFFF ∷ [])
+    → wordBytes (0x5053_5449 ∷ 1 ∷ 0x54 ∷ 0x0A ∷ 4096 ∷ density ∷ depth ∷ root ∷ 0 ∷ last ∷ unknownWord ∷ count ∷ language
+    ∷ 0x5D02_926A ∷ 0x11D0_212E ∷ 0xA000_F99D ∷ 0xECE6_22C9 ∷ 0x54 ∷ unknownWord ∷ unknownWord ∷ unknownWord ∷ [])
     ≡ directoryHeader language density depth root last count
 unfolding wordBytes directoryHeader bytes flatten
 directory-words language density depth root last count = refl

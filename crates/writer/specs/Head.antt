@@ -6,7 +6,7 @@ use mathlib.Core.Bool.{true, cond}
 use mathlib.Core.List.{List, _++_, flatMap}
 use lib.ListN.{length, take, drop}
 use lib.Dec.{leb}
-use Rattle.directory_header.specs.DirectoryHeader.{none}
+use Rattle.refusals.specs.Refusals.{refusalOf}
 use Rattle.entries.specs.Stored.{entryBytes}
 use Rattle.source.specs.Input.{given}
 use Rattle.layout.specs.Headers.{headLength}
@@ -17,9 +17,6 @@ use Rattle.writer.specs.declared.Written.the-variants.{Length, Refused}
 
 -- ---- the answer
 
-abbrev pub refusal : ℕ → Written
-refusal n = Refused (record { number = n; chunk = none })
-
 -- for an output of so many bytes: refusals 18, 19 and 20 in their order, else the head's length (W14, RO6)
 unfoldable pub written : (s : List ℕ) (density content room : ℕ) → Written
 written s density content room =
@@ -27,9 +24,9 @@ written s density content room =
     (cond (smallEnough (layoutFor density content s))
     (cond (leb (headLength (chunkCount (layoutFor density content s))) room)
     (Length (headLength (chunkCount (layoutFor density content s))))
-    (refusal 20))
-    (refusal 19))
-    (refusal 18)
+    (Refused (refusalOf 20)))
+    (Refused (refusalOf 19)))
+    (Refused (refusalOf 18))
 
 -- what the output then holds: the head, and behind it what it held before (W15); all as it was after a refusal (RO8)
 abbrev pub outputFor : Written → List ℕ → List ℕ → List ℕ

@@ -19,10 +19,10 @@ ghost use Rattle.layout.specs.Headers.{fileHeader, sectionZero, directoryHeader
 ghost use Rattle.layout.specs.Layout.{layoutOf, layoutFor, prevOf, nextOf, chunksOf, headBytes};
 ghost use Rattle.writer.specs.Head.{written, outputFor, Worth, ShortInput};
 ghost use Rattle.writer.specs.Plan.{limits, Next, openWith, startsWith, ListingPlanned, LevelPlanned, Planned, LevelFits, IndexFits, indexOf, headersOf, Ready};
-use book::Refusal;
 use entries::Item;
 use entries::Place;
 use pack::Extent;
+use refusals::Refusal;
 use source::Cursor;
 
 // The length of the head that was written, or a refusal: 18, 19 or 20.
@@ -50,15 +50,6 @@ enum Shape {
     Chunks(usize, usize, usize),
     TooMany,
     Bad,
-}
-
-fn refusal(number: u8) -> Written
-    ensures { λ r. ⌜ r ≡ Written.Refused (record { number = number; chunk = 0xFFFF_FFFF }) ⌝ }
-{
-    Written::Refused(Refusal {
-        number,
-        chunk: 0xFFFF_FFFF,
-    })
 }
 
 // Whether the writer takes a density and a content length.
@@ -355,6 +346,9 @@ fn put_section(out: &mut [u8], size: u64)
     compose::put_words(out, 0x60, &words);
 }
 
+// What stands in most of the unknown words of the directory's header.
+const UNKNOWN_WORD: u32 = 0xFFFF_FFFF;
+
 // Writes the directory's header.
 fn put_directory_header(
     out: &mut [u8],
@@ -379,7 +373,7 @@ fn put_directory_header(
         root,
         0,
         last,
-        0xFFFF_FFFF,
+        UNKNOWN_WORD,
         count,
         language,
         0x5D02_926A,
@@ -387,9 +381,9 @@ fn put_directory_header(
         0xA000_F99D,
         0xECE6_22C9,
         0x54,
-        0xFFFF_FFFF,
-        0xFFFF_FFFF,
-        0xFFFF_FFFF,
+        UNKNOWN_WORD,
+        UNKNOWN_WORD,
+        UNKNOWN_WORD,
     ];
     compose::put_words(out, 0x78, &words);
 }
@@ -464,18 +458,18 @@ pub fn write_head(
     ensures input { λ r. ⌜ ShortInput r «content_length» (now (entries .entry)) ⌝ }
 {
     if !is_taken(density, content_length) {
-        return refusal(18);
+        return Written::Refused(refusals::refuse(18));
     }
     let n = chunk::spacing(density as u64);
     let mut starts = [0usize; 4096];
     let shape = plan(entries, content_length, n, &mut starts);
     match shape {
-        Shape::Bad => refusal(18),
-        Shape::TooMany => refusal(19),
+        Shape::Bad => Written::Refused(refusals::refuse(18)),
+        Shape::TooMany => Written::Refused(refusals::refuse(19)),
         Shape::Chunks(m, depth, count) => {
             let len = 204 + 4096 * count;
             if out.len() < len {
-                return refusal(20);
+                return Written::Refused(refusals::refuse(20));
             }
             put_head(
                 out,

@@ -1,6 +1,8 @@
 -- `directory_header::root_right` meets its contract. Assumes nothing.
+use mathlib.Core.Path.{_∙_, sym}
 use borrow.Author.Needs.{needs}
 use borrow.Author.Tests.{eq-eqb, ne-eqb}
+use Rattle.refusals.specs.Refusals.{noChunk}
 use Rattle.directory_header.specs.DirectoryHeader.{rootRight}
 use Rattle.directory_header.proofs.root_right.Statement.{statement}
 use Rattle.directory_header.proofs.root_right.Tie as tie
@@ -20,10 +22,13 @@ returns c =
     let d = c .before .before in
     rw (← d .depth .ensures, eq-eqb _ _ (c .before .if1 .taken), ← d .before .before .count .ensures, ne-eqb _ _ (c .if2 .taken))
 
+no-chunk-requires : tie.Need-no-chunk-requires
+no-chunk-requires c κs = search needs
+
 returns-2 : tie.Need-returns-2
 unfolding rootRight
 returns-2 c =
-    let two = c .before in
+    let two = c .before .before in
     let d = two .before .before in
     rw (
       ← d .depth .ensures,
@@ -31,13 +36,13 @@ returns-2 c =
       ← d .before .before .count .ensures,
       eq-eqb _ _ (two .if2 .left),
       ← d .before .root .ensures,
-      eq-eqb _ _ (c .if3 .taken),
+      eq-eqb _ noChunk (c .if3 .taken ∙ c .before .no-chunk .ensures),
     )
 
 returns-3 : tie.Need-returns-3
 unfolding rootRight
 returns-3 c =
-    let two = c .before in
+    let two = c .before .before in
     let d = two .before .before in
     rw (
       ← d .depth .ensures,
@@ -45,7 +50,7 @@ returns-3 c =
       ← d .before .before .count .ensures,
       eq-eqb _ _ (two .if2 .left),
       ← d .before .root .ensures,
-      ne-eqb _ _ (c .if3 .left),
+      ne-eqb _ noChunk (λ q. c .if3 .left (q ∙ sym (c .before .no-chunk .ensures))),
     )
 
 returns-4 : tie.Need-returns-4
@@ -68,6 +73,7 @@ root-right-spec =
     root-requires
     depth-requires
     returns
+    no-chunk-requires
     returns-2
     returns-3
     returns-4

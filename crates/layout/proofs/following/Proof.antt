@@ -7,9 +7,12 @@ use Rattle.layout.specs.Layout.{nextOf}
 use Rattle.layout.proofs.following.Statement.{statement}
 use Rattle.layout.proofs.following.Tie as tie
 
+no-chunk-requires : tie.Need-no-chunk-requires
+no-chunk-requires c κs = search needs
+
 returns : tie.Need-returns
 unfolding nextOf
-returns c = rw (le-ltb (c .before .args .c + 1) (c .before .args .m) (omega arith))
+returns c = rw (le-ltb (c .before .before .args .c + 1) (c .before .before .args .m) (omega arith)) (c .no-chunk .ensures)
 
 add-if2 : tie.Need-add-if2
 add-if2 c = search needs
@@ -21,9 +24,12 @@ returns-2 : tie.Need-returns-2
 unfolding nextOf
 returns-2 c = rw (lt-ltb (c .before .before .args .c + 1) (c .before .before .args .m) (c .if2 .taken))
 
+no-chunk-requires-2 : tie.Need-no-chunk-requires-2
+no-chunk-requires-2 c κs = search needs
+
 returns-3 : tie.Need-returns-3
 unfolding nextOf
-returns-3 c = rw (le-ltb (c .before .before .args .c + 1) (c .before .before .args .m) (c .if2 .left))
+returns-3 c = rw (le-ltb (c .before .before .before .args .c + 1) (c .before .before .before .args .m) (c .before .if2 .left)) (c .no-chunk2 .ensures)
 
 pub following-spec : {M : Type 1} → statement M
-following-spec = tie.close (tie.spec returns add-if2 add-result returns-2 returns-3)
+following-spec = tie.close (tie.spec no-chunk-requires returns add-if2 add-result returns-2 no-chunk-requires-2 returns-3)

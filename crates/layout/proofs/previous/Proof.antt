@@ -5,9 +5,12 @@ use Rattle.layout.specs.Layout.{prevOf}
 use Rattle.layout.proofs.previous.Statement.{statement}
 use Rattle.layout.proofs.previous.Tie as tie
 
+no-chunk-requires : tie.Need-no-chunk-requires
+no-chunk-requires c κs = search needs
+
 returns : tie.Need-returns
 unfolding prevOf
-returns c = rw (eq-eqb (c .before .args .c) 0 (c .if1 .taken))
+returns c = rw (eq-eqb (c .before .before .args .c) 0 (c .before .if1 .taken)) (c .no-chunk .ensures)
 
 sub-result : tie.Need-sub-result
 sub-result c = search needs
@@ -17,4 +20,4 @@ unfolding prevOf
 returns-2 c = rw (ne-eqb (c .before .args .c) 0 (c .if1 .left))
 
 pub previous-spec : {M : Type 1} → statement M
-previous-spec = tie.close (tie.spec returns sub-result returns-2)
+previous-spec = tie.close (tie.spec no-chunk-requires returns sub-result returns-2)

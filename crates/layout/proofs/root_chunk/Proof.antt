@@ -6,9 +6,12 @@ use Rattle.layout.specs.Layout.{rootOf}
 use Rattle.layout.proofs.root_chunk.Statement.{statement}
 use Rattle.layout.proofs.root_chunk.Tie as tie
 
+no-chunk-requires : tie.Need-no-chunk-requires
+no-chunk-requires c κs = search needs
+
 returns : tie.Need-returns
 unfolding rootOf
-returns c = rw (eq-eqb (c .before .args .depth) 1 (c .if1 .taken))
+returns c = rw (eq-eqb (c .before .before .args .depth) 1 (c .before .if1 .taken)) (c .no-chunk .ensures)
 
 returns-2 : tie.Need-returns-2
 unfolding rootOf
@@ -22,4 +25,4 @@ unfolding rootOf
 returns-3 c = rw (ne-eqb (c .before .before .args .depth) 1 (c .before .if1 .left))
 
 pub root-chunk-spec : {M : Type 1} → statement M
-root-chunk-spec = tie.close (tie.spec returns returns-2 sub-result returns-3)
+root-chunk-spec = tie.close (tie.spec no-chunk-requires returns returns-2 sub-result returns-3)

@@ -10,7 +10,7 @@ use borrow.Fn.Kinds.{In}
 use borrow.Fn.PlainCycle.{Measures, is, falls, and}
 use Rattle.book.specs.Search.{costAt}
 use Rattle.lookup.specs.Step.{wayAt}
-use Rattle.lookup.specs.declared.Answer.the-variants.{Absent}
+use Rattle.lookup.specs.declared.Answer.the-variants.{Absent, Refused}
 use Rattle.lookup.specs.declared.Way.the-variants.{Down, Ends, Barred}
 use Rattle.lookup.proofs.Descending.{listing-below, down-below, down-fits, ends-below, ends-fits, at-listing, at-end, at-bar, going-down}
 use Rattle.lookup.proofs.descend.Reads as descend
@@ -20,7 +20,7 @@ use Rattle.lookup.proofs.ask_index.Reads as ask-index-reads
 use Rattle.lookup.proofs.ask_listing.Reads as ask-listing-reads
 use Rattle.lookup.proofs.is_refusal.Reads as is-refusal-reads
 use Rattle.lookup.proofs.mark.Reads as mark-reads
-use Rattle.lookup.proofs.refused.Reads as refused-reads
+use Rattle.refusals.proofs.refuse.Reads as refuse-reads
 use Rattle.lookup.proofs.+descend.{statement}
 use Rattle.lookup.proofs.+descend.Tie.{close}
 
@@ -46,8 +46,8 @@ callees t = (
   ask-index-reads.Learnt,
   descend-below t,
   descend.Post,
-  refused-reads.Asked,
-  refused-reads.Learnt,
+  refuse-reads.Asked,
+  refuse-reads.Learnt,
 )
 
 -- where the index chunk leads
@@ -156,8 +156,8 @@ descend-mark-requires-3 t c κs =
 descend-enum-told : (t : ℕ) → descend-lts.Need-enum-told (callees t) (descend-at t) descend.Post
 descend-enum-told t c = search needs
 
-descend-refused-requires : (t : ℕ) → descend-lts.Need-refused-requires (callees t) (descend-at t) descend.Post
-descend-refused-requires t c κs = search needs
+descend-refuse-requires : (t : ℕ) → descend-lts.Need-refuse-requires (callees t) (descend-at t) descend.Post
+descend-refuse-requires t c κs = search needs
 
 descend-same-length-2 : (t : ℕ) → descend-lts.Need-same-length-2 (callees t) (descend-at t) descend.Post
 descend-same-length-2 t c = c .before .before .mark2 .kept .1 .0 ∙ c .before .before .before .before .before .before .before .descend .kept .1 .1 .1 .1 .1 .0
@@ -191,8 +191,8 @@ descend-returns-4 : (t : ℕ) → descend-lts.Need-returns-4 (callees t) (descen
 descend-returns-4 t c =
     let e = c .before in
     let a = e .before .before .before .before .before .before .before .args in
-    at-bar (now (a .file)) (a .book) (now (a .name)) (a .c) (a .level) (a .i) (a .spent) (now (a .trail)) (c .refused .result)
-    (omega arith) (way-barred t e) (c .refused .ensures)
+    at-bar (now (a .file)) (a .book) (now (a .name)) (a .c) (a .level) (a .i) (a .spent) (now (a .trail)) (Refused (c .refuse .result))
+    (omega arith) (way-barred t e) (ap Refused (c .refuse .ensures))
 
 pub +descend-spec : {M : Type 1} → statement M
 +descend-spec = close μ-descend λ t. descend-lts.spec (callees t)
@@ -217,7 +217,7 @@ pub +descend-spec : {M : Type 1} → statement M
     (descend-add-total t)
     (descend-mark-requires-3 t)
     (descend-enum-told t)
-    (descend-refused-requires t)
+    (descend-refuse-requires t)
     (descend-same-length-2 t)
     (descend-returns-2 t)
     (descend-same-length-3 t)

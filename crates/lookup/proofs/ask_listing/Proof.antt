@@ -1,4 +1,4 @@
-use mathlib.Core.Path.{_≡_, sym, _∙_}
+use mathlib.Core.Path.{_≡_, sym, ap, _∙_}
 use Prim.Native.Nat.{_+_}
 use native.Mathlib.Omega.{arith}
 use denote.Ref.{now}
@@ -7,6 +7,7 @@ use Rattle.book.specs.Search.{costAt}
 use Rattle.book.specs.declared.Search.{Search}
 use Rattle.lookup.specs.Lookup.{answerOf}
 use Rattle.lookup.specs.Step.{outcomeAt}
+use Rattle.lookup.specs.declared.Answer.the-variants.{Refused}
 use Rattle.lookup.proofs.Steps.{afterSearch, listing-answer, found-few, next-few}
 use Rattle.lookup.proofs.ask_listing.Statement.{statement}
 use Rattle.lookup.proofs.ask_listing.Tie as tie
@@ -37,8 +38,8 @@ add-total c =
 enum-told : tie.Need-enum-told
 enum-told c = search needs
 
-refused-requires : tie.Need-refused-requires
-refused-requires c κs = search needs
+refuse-requires : tie.Need-refuse-requires
+refuse-requires c κs = search needs
 
 -- the answer after a search that came to x
 answers : (c : tie.After-search-in) (x : Search) → c .search-in .result ≡ x
@@ -56,7 +57,7 @@ returns-2 : tie.Need-returns-2
 returns-2 c = answers (c .before .before .before) _ (c .before .missed .given .1)
 
 returns-3 : tie.Need-returns-3
-returns-3 c = c .refused .ensures ∙ answers (c .before .before .before) _ (c .before .enum-told .given .1)
+returns-3 c = ap Refused (c .refuse .ensures) ∙ answers (c .before .before .before) _ (c .before .enum-told .given .1)
 
 pub ask-listing-spec : {M : Type 1} → statement M
 ask-listing-spec =
@@ -68,7 +69,7 @@ ask-listing-spec =
     enum-known-missed
     add-total
     enum-told
-    refused-requires
+    refuse-requires
     returns
     returns-2
     returns-3)

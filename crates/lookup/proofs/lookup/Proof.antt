@@ -1,8 +1,10 @@
+use mathlib.Core.Path.{ap}
 use native.Mathlib.Omega.{arith}
 use denote.Ref.{now}
 use borrow.Author.Needs.{needs}
 use Rattle.fields.proofs.Tests.{held, failed}
 use Rattle.book.proofs.Laws.{fits-told}
+use Rattle.lookup.specs.declared.Answer.the-variants.{Refused}
 use Rattle.lookup.proofs.Promised.{name-bad, trail-short, record-bad, descended}
 use Rattle.lookup.proofs.lookup.Statement.{statement}
 use Rattle.lookup.proofs.lookup.Tie as tie
@@ -13,35 +15,35 @@ is-askable-requires c κs = search needs
 fits-requires : tie.Need-fits-requires
 fits-requires c κs = search needs
 
-refused-requires : tie.Need-refused-requires
-refused-requires c κs = search needs
+refuse-requires : tie.Need-refuse-requires
+refuse-requires c κs = search needs
 
 returns : tie.Need-returns
 returns c =
     let f = c .before .before in
     let a = f .before .before .before .before .before .args in
-    name-bad (now (a .file)) (a .book) (now (a .name)) (now (a .trail)) (c .refused .result) (failed (f .before .is-askable .ensures) (c .before .if1 .taken)) (c .refused .ensures)
+    name-bad (now (a .file)) (a .book) (now (a .name)) (now (a .trail)) (Refused (c .refuse .result)) (failed (f .before .is-askable .ensures) (c .before .if1 .taken)) (ap Refused (c .refuse .ensures))
 
-refused-requires-2 : tie.Need-refused-requires-2
-refused-requires-2 c κs = search needs
+refuse-requires-2 : tie.Need-refuse-requires-2
+refuse-requires-2 c κs = search needs
 
 returns-2 : tie.Need-returns-2
 returns-2 c =
     let e = c .before .before in
     let f = e .before in
     let a = f .before .before .before .before .before .args in
-    trail-short (now (a .file)) (a .book) (now (a .name)) (now (a .trail)) (held (f .before .is-askable .ensures) (e .if1 .left)) (c .refused2 .result) (omega arith) (c .refused2 .ensures)
+    trail-short (now (a .file)) (a .book) (now (a .name)) (now (a .trail)) (held (f .before .is-askable .ensures) (e .if1 .left)) (Refused (c .refuse2 .result)) (omega arith) (ap Refused (c .refuse2 .ensures))
 
-refused-requires-3 : tie.Need-refused-requires-3
-refused-requires-3 c κs = search needs
+refuse-requires-3 : tie.Need-refuse-requires-3
+refuse-requires-3 c κs = search needs
 
 returns-3 : tie.Need-returns-3
 returns-3 c =
     let e = c .before .before in
     let f = e .before .before in
     let a = f .before .before .before .before .before .args in
-    record-bad (now (a .file)) (a .book) (now (a .name)) (now (a .trail)) (held (f .before .is-askable .ensures) (e .before .if1 .left)) (omega arith) (c .refused3 .result)
-    (failed (f .fits2 .ensures) (c .before .if3 .taken)) (c .refused3 .ensures)
+    record-bad (now (a .file)) (a .book) (now (a .name)) (now (a .trail)) (held (f .before .is-askable .ensures) (e .before .if1 .left)) (omega arith) (Refused (c .refuse3 .result))
+    (failed (f .fits2 .ensures) (c .before .if3 .taken)) (ap Refused (c .refuse3 .ensures))
 
 top-chunk-requires : tie.Need-top-chunk-requires
 top-chunk-requires c κs = search needs
@@ -73,11 +75,11 @@ lookup-spec =
     (tie.spec
     is-askable-requires
     fits-requires
-    refused-requires
+    refuse-requires
     returns
-    refused-requires-2
+    refuse-requires-2
     returns-2
-    refused-requires-3
+    refuse-requires-3
     returns-3
     top-chunk-requires
     descend-requires

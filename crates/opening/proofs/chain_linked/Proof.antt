@@ -1,10 +1,10 @@
 use borrow.Author.Needs.{needs}
 use borrow.Author.Tests.{eq-eqb, ne-eqb}
-use mathlib.Core.Path.{_≡_, refl, sym, ap, _∙_}
+use mathlib.Core.Path.{_≡_, sym, ap, _∙_}
 use native.Mathlib.Omega.{arith}
 use Prim.Native.Nat.{_-_}
 use denote.Ref.{now}
-use Rattle.tree.specs.Shape.{noChunk}
+use Rattle.refusals.specs.Refusals.{noChunk}
 use Rattle.tree.specs.Walk.{chainRun}
 use Rattle.tree.proofs.Steps.{run-none}
 use Rattle.book.specs.Book.{directoryOf, shapeOf}
@@ -21,18 +21,26 @@ abbrev μ-loop : tie.MeasureT-loop
 μ-loop file book listings last previous₀ c₀ left₀ previous c left = left
 
 -- the run by the link that was found
-linked-is : (c : tie.After-link-from Inv-loop μ-loop) → let l = c .before .before in let a = l .before .before .args in
+linked-is : (c : tie.After-link-from Inv-loop μ-loop) → let l = c .before .before in let a = l .before .before .before .args in
     runLink (directoryOf (now (a .file)) (a .book)) (shapeOf (a .book)) (l .loop .left - 1) (l .loop .c) (c .link-from .result)
     ≡ chainRun (directoryOf (now (a .file)) (a .book)) (shapeOf (a .book)) (a .listings) noChunk (a .book .first)
 linked-is c =
     let l = c .before .before in
-    let a = l .before .before .args in
+    let a = l .before .before .before .args in
     ap (runLink (directoryOf (now (a .file)) (a .book)) (shapeOf (a .book)) (l .loop .left - 1) (l .loop .c)) (c .link-from .ensures)
     ∙ sym (run-link (directoryOf (now (a .file)) (a .book)) (shapeOf (a .book)) (l .loop .left) (l .loop .previous) (l .loop .c) (c .before .loop-test .taken))
     ∙ l .loop .inv
 
+no-chunk-requires : tie.Need-no-chunk-requires Inv-loop μ-loop
+no-chunk-requires c κs = search needs
+
+cast-previous : tie.Need-cast-previous Inv-loop μ-loop
+cast-previous c = search needs
+
 loop-holds : tie.Need-loop-holds Inv-loop μ-loop
-loop-holds c = refl
+loop-holds c =
+    let a = c .before .before .args in
+    ap (λ p. chainRun (directoryOf (now (a .file)) (a .book)) (shapeOf (a .book)) (a .listings) p (a .book .first)) (c .no-chunk .ensures)
 
 sub-left : tie.Need-sub-left Inv-loop μ-loop
 sub-left c = search needs
@@ -67,7 +75,7 @@ loop-again c = rw (c .before .next .given .1) at (linked-is (c .before .before .
 returns-4 : tie.Need-returns-4 Inv-loop μ-loop
 returns-4 c =
     let l = c .before in
-    let a = l .before .before .args in
+    let a = l .before .before .before .args in
     sym (run-none (directoryOf (now (a .file)) (a .book)) (shapeOf (a .book)) (l .loop .left) (l .loop .previous) (l .loop .c) (omega arith)) ∙ l .loop .inv
 
 pub chain-linked-spec : {M : Type 1} → statement M
@@ -76,6 +84,8 @@ chain-linked-spec =
     (tie.spec
     Inv-loop
     μ-loop
+    no-chunk-requires
+    cast-previous
     loop-holds
     sub-left
     link-from-requires

@@ -1,10 +1,12 @@
 use borrow.Author.Needs.{needs}
 use borrow.Author.Tests.{eq-eqb, ne-eqb}
 use mathlib.Core.Path.{_≡_, sym, ap, _∙_}
-use mathlib.Core.Bool.{true}
+use mathlib.Core.Bool.{true, false}
+use lib.Dec.{eqb}
 use denote.Ref.{now}
 use Rattle.fields.proofs.Tests.{held, failed}
-use Rattle.tree.specs.Shape.{noChunk, previousOf, nextOf, listingChunk}
+use Rattle.refusals.specs.Refusals.{noChunk}
+use Rattle.tree.specs.Shape.{previousOf, nextOf, listingChunk}
 use Rattle.book.specs.Book.{directoryOf, shapeOf}
 use Rattle.opening.specs.Passes.{linkOf}
 use Rattle.opening.proofs.Tags.{Tagged, tagged-chunk, listing-is, listing-below}
@@ -29,6 +31,10 @@ previous-is c = tagged-is (c .before) .previous (listing-is _ _ _ (is-there (c .
 next-is : (c : tie.After-le322) → let a = c .before .before .before .before .before .before .before .args in
     nextOf (directoryOf (now (a .file)) (a .book) (a .c)) ≡ c .le322 .result
 next-is c = let b = c .before .before .before in tagged-is b .next (listing-is _ _ _ (is-there (b .before))) ∙ sym (c .le322 .ensures)
+
+-- another chunk follows
+another : (c : tie.Else3) → eqb (c .before .before .le322 .result) noChunk ≡ false
+another c = ne-eqb _ noChunk (λ q. c .if3 .left (q ∙ sym (c .before .no-chunk .ensures)))
 
 is-listing-requires : tie.Need-is-listing-requires
 is-listing-requires c κs = search needs
@@ -56,11 +62,17 @@ le32-requires-2 c κs = search needs
 cast-next : tie.Need-cast-next
 cast-next c = search needs
 
+no-chunk-requires : tie.Need-no-chunk-requires
+no-chunk-requires c κs = search needs
+
+cast-if3 : tie.Need-cast-if3
+cast-if3 c = search needs
+
 returns-3 : tie.Need-returns-3
 unfolding linkOf
 returns-3 c =
-    let e = c .before .before in
-    rw (is-there (e .before .before .before), previous-is (e .before), eq-eqb _ _ (e .if2 .left), next-is (c .before), eq-eqb _ _ (c .if3 .taken))
+    let e = c .before .before .before in
+    rw (is-there (e .before .before .before), previous-is (e .before), eq-eqb _ _ (e .if2 .left), next-is (c .before .before), eq-eqb _ noChunk (c .if3 .taken ∙ c .before .no-chunk .ensures))
 
 is-listing-requires-2 : tie.Need-is-listing-requires-2
 is-listing-requires-2 c κs = search needs
@@ -69,13 +81,13 @@ returns-4 : tie.Need-returns-4
 unfolding linkOf
 returns-4 c =
     let n = c .before .before in
-    let e = n .before .before in
-    rw (is-there (e .before .before .before), previous-is (e .before), eq-eqb _ _ (e .if2 .left), next-is (n .before), ne-eqb _ _ (n .if3 .left), failed (c .before .is-listing2 .ensures) (c .if4 .taken))
+    let e = n .before .before .before in
+    rw (is-there (e .before .before .before), previous-is (e .before), eq-eqb _ _ (e .if2 .left), next-is (n .before .before), another n, failed (c .before .is-listing2 .ensures) (c .if4 .taken))
 
 names-rise-requires : tie.Need-names-rise-requires
 names-rise-requires c κs =
     let n = c .before .before in
-    let e = n .before .before in
+    let e = n .before .before .before in
     let k = e .before .before .before .before .before .before in
     (k .pre, listing-below _ _ _ (held (c .before .is-listing2 .ensures) (c .if4 .left)), is-there (e .before .before .before))
 
@@ -85,8 +97,8 @@ returns-5 c =
     let r = c .before in
     let l = r .before in
     let n = l .before .before in
-    let e = n .before .before in
-    rw (is-there (e .before .before .before), previous-is (e .before), eq-eqb _ _ (e .if2 .left), next-is (n .before), ne-eqb _ _ (n .if3 .left), held (l .before .is-listing2 .ensures) (l .if4 .left), sym (r .names-rise .ensures) ∙ c .if5 .taken)
+    let e = n .before .before .before in
+    rw (is-there (e .before .before .before), previous-is (e .before), eq-eqb _ _ (e .if2 .left), next-is (n .before .before), another n, held (l .before .is-listing2 .ensures) (l .if4 .left), sym (r .names-rise .ensures) ∙ c .if5 .taken)
 
 returns-6 : tie.Need-returns-6
 unfolding linkOf
@@ -94,8 +106,8 @@ returns-6 c =
     let r = c .before in
     let l = r .before in
     let n = l .before .before in
-    let e = n .before .before in
-    rw (is-there (e .before .before .before), previous-is (e .before), eq-eqb _ _ (e .if2 .left), next-is (n .before), ne-eqb _ _ (n .if3 .left), held (l .before .is-listing2 .ensures) (l .if4 .left), sym (r .names-rise .ensures) ∙ c .if5 .left)
+    let e = n .before .before .before in
+    rw (is-there (e .before .before .before), previous-is (e .before), eq-eqb _ _ (e .if2 .left), next-is (n .before .before), another n, held (l .before .is-listing2 .ensures) (l .if4 .left), sym (r .names-rise .ensures) ∙ c .if5 .left)
 
 pub link-from-spec : {M : Type 1} → statement M
 link-from-spec =
@@ -109,6 +121,8 @@ link-from-spec =
     returns-2
     le32-requires-2
     cast-next
+    no-chunk-requires
+    cast-if3
     returns-3
     is-listing-requires-2
     returns-4

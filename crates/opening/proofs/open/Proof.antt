@@ -5,6 +5,7 @@ use Rattle.header.specs.Header.{headerOf}
 use Rattle.header.specs.declared.CheckedHeader.the-variants.{Good}
 use Rattle.header.proofs.Accepted.{accepted}
 use Rattle.opening.specs.Opened.{opened}
+use Rattle.opening.specs.declared.Opened.the-variants.{Refused}
 use Rattle.opening.proofs.open.Statement.{statement}
 use Rattle.opening.proofs.open.Tie as tie
 
@@ -23,13 +24,16 @@ open-chunks-requires c κs = accepted _ _ (head-is (c .before)) .count-high
 enum-known-number : tie.Need-enum-known-number
 enum-known-number c = search needs
 
+refuse-requires : tie.Need-refuse-requires
+refuse-requires c κs = search needs
+
 returns : tie.Need-returns
 unfolding opened
 returns c = rw (head-is (c .before .before)) (c .open-chunks .ensures)
 
 returns-2 : tie.Need-returns-2
 unfolding opened
-returns-2 c = rw (sym (c .before .before .before .read .ensures) ∙ c .before .number .given .1)
+returns-2 c = rw (sym (c .before .before .before .before .read .ensures) ∙ c .before .before .number .given .1) (ap Refused (c .refuse .ensures))
 
 pub open-spec : {M : Type 1} → statement M
 open-spec =
@@ -39,5 +43,6 @@ open-spec =
     enum-known-book
     open-chunks-requires
     enum-known-number
+    refuse-requires
     returns
     returns-2)

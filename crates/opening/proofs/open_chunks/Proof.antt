@@ -5,6 +5,7 @@ use Prim.Native.Nat.{_+_}
 use denote.Ref.{now}
 use Rattle.book.specs.Book.{directoryOf}
 use Rattle.opening.specs.Opened.{linkedBook}
+use Rattle.opening.specs.declared.Opened.the-variants.{Refused}
 use Rattle.opening.proofs.Surveys.{Passed, survey-refuses, survey-passes}
 use Rattle.opening.proofs.open_chunks.Statement.{statement}
 use Rattle.opening.proofs.open_chunks.Tie as tie
@@ -20,6 +21,9 @@ survey-chunks-requires c κs = search needs
 enum-known-number : tie.Need-enum-known-number
 enum-known-number c = search needs
 
+refuse-at-requires : tie.Need-refuse-at-requires
+refuse-at-requires c κs = search needs
+
 enum-known-n : tie.Need-enum-known-n
 enum-known-n c = search needs
 
@@ -31,7 +35,8 @@ open-links-requires c κs =
     (record { few = k .pre; good = λ i l. p .good i (omega arith) (omega arith) }, rw z at (p .counted refl))
 
 returns : tie.Need-returns
-returns c = survey-refuses _ _ _ _ _ _ _ (sym (c .before .number .given .1) ∙ c .before .before .before .survey-chunks .ensures)
+returns c =
+    ap Refused (c .refuse-at .ensures) ∙ survey-refuses _ _ _ _ _ _ _ (sym (c .before .before .number .given .1) ∙ c .before .before .before .before .survey-chunks .ensures)
 
 returns-2 : tie.Need-returns-2
 returns-2 c = c .open-links .ensures ∙ sym (passed (c .before .before) .on)
@@ -42,6 +47,7 @@ open-chunks-spec =
     (tie.spec
     survey-chunks-requires
     enum-known-number
+    refuse-at-requires
     enum-known-n
     open-links-requires
     returns

@@ -4,9 +4,10 @@ use mathlib.Core.Bool.{true, false}
 use native.Mathlib.Omega.{arith}
 use denote.Ref.{now}
 use Rattle.fields.proofs.Tests.{held, failed}
-use Rattle.tree.specs.Shape.{noChunk}
+use Rattle.refusals.specs.Refusals.{noChunk}
 use Rattle.tree.specs.Walk.{chainRun, chainRunOk, treeWalkOk}
 use Rattle.book.specs.Book.{directoryOf, shapeOf}
+use Rattle.opening.specs.declared.Opened.the-variants.{Refused}
 use Rattle.opening.proofs.Links.{index-count, listing-count, linked-run}
 use Rattle.opening.proofs.open_links.Statement.{statement}
 use Rattle.opening.proofs.open_links.Tie as tie
@@ -28,11 +29,14 @@ tree-is c =
 chain-linked-requires : tie.Need-chain-linked-requires
 chain-linked-requires c κs = search needs
 
+refuse-requires : tie.Need-refuse-requires
+refuse-requires c κs = search needs
+
 returns : tie.Need-returns
 returns c =
-    let k = c .before .before .before in
+    let k = c .before .before .before .before in
     let a = k .args in
-    rw (linked-run (now (a .file)) (a .book) (k .pre .0), failed (chain-is (c .before)) (c .if1 .taken))
+    rw (linked-run (now (a .file)) (a .book) (k .pre .0), failed (chain-is (c .before .before)) (c .before .if1 .taken)) (ap Refused (c .refuse .ensures))
 
 sub-tree-right : tie.Need-sub-tree-right
 sub-tree-right c =
@@ -42,12 +46,15 @@ sub-tree-right c =
 tree-right-requires : tie.Need-tree-right-requires
 tree-right-requires c κs = search needs
 
+refuse-requires-2 : tie.Need-refuse-requires-2
+refuse-requires-2 c κs = search needs
+
 returns-2 : tie.Need-returns-2
 returns-2 c =
-    let e = c .before .before .before in
+    let e = c .before .before .before .before in
     let k = e .before .before .before in
     let a = k .args in
-    rw (linked-run (now (a .file)) (a .book) (k .pre .0), held (chain-is (e .before)) (e .if1 .left), failed (tree-is (c .before)) (c .if2 .taken))
+    rw (linked-run (now (a .file)) (a .book) (k .pre .0), held (chain-is (e .before)) (e .if1 .left), failed (tree-is (c .before .before)) (c .before .if2 .taken)) (ap Refused (c .refuse2 .ensures))
 
 returns-3 : tie.Need-returns-3
 returns-3 c =
@@ -59,4 +66,4 @@ returns-3 c =
 pub open-links-spec : {M : Type 1} → statement M
 open-links-spec =
     tie.close
-    (tie.spec chain-linked-requires returns sub-tree-right tree-right-requires returns-2 returns-3)
+    (tie.spec chain-linked-requires refuse-requires returns sub-tree-right tree-right-requires refuse-requires-2 returns-2 returns-3)

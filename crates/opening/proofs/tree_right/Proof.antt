@@ -2,6 +2,7 @@ use borrow.Author.Needs.{needs}
 use borrow.Author.Tests.{eq-eqb, ne-eqb}
 use mathlib.Core.Path.{_≡_, sym, ap, _∙_}
 use denote.Ref.{now}
+use Rattle.refusals.specs.Refusals.{noChunk}
 use Rattle.tree.specs.Tree.{top}
 use Rattle.tree.specs.Walk.{arrived, walk}
 use Rattle.book.specs.Book.{directoryOf, shapeOf}
@@ -27,6 +28,12 @@ enum-told c = search needs
 enum-known-expected : tie.Need-enum-known-expected
 enum-known-expected c = search needs
 
+no-chunk-requires : tie.Need-no-chunk-requires
+no-chunk-requires c κs = search needs
+
+cast-if1 : tie.Need-cast-if1
+cast-if1 c = search needs
+
 returns : tie.Need-returns
 returns c =
     let a = c .before .before .before .before .before .args in
@@ -34,15 +41,15 @@ returns c =
 
 returns-2 : tie.Need-returns-2
 returns-2 c =
-    let e = c .before .before in
+    let e = c .before .before .before in
     let a = e .before .before .before .before .before .args in
-    rw (going-is (walk (directoryOf (now (a .file)) (a .book)) (shapeOf (a .book)) (a .book .depth) (top (shapeOf (a .book))) (a .book .first) (a .indexes)) (e .expected .given .0 .0) (e .expected .given .0 .1 .0) (sym (e .expected .given .1) ∙ walked (e .before .before)), eq-eqb _ _ (c .if1 .taken))
+    rw (going-is (walk (directoryOf (now (a .file)) (a .book)) (shapeOf (a .book)) (a .book .depth) (top (shapeOf (a .book))) (a .book .first) (a .indexes)) (e .expected .given .0 .0) (e .expected .given .0 .1 .0) (sym (e .expected .given .1) ∙ walked (e .before .before)), eq-eqb _ noChunk (c .if1 .taken ∙ c .before .no-chunk .ensures))
 
 returns-3 : tie.Need-returns-3
 returns-3 c =
-    let e = c .before .before in
+    let e = c .before .before .before in
     let a = e .before .before .before .before .before .args in
-    rw (going-is (walk (directoryOf (now (a .file)) (a .book)) (shapeOf (a .book)) (a .book .depth) (top (shapeOf (a .book))) (a .book .first) (a .indexes)) (e .expected .given .0 .0) (e .expected .given .0 .1 .0) (sym (e .expected .given .1) ∙ walked (e .before .before)), ne-eqb _ _ (c .if1 .left))
+    rw (going-is (walk (directoryOf (now (a .file)) (a .book)) (shapeOf (a .book)) (a .book .depth) (top (shapeOf (a .book))) (a .book .first) (a .indexes)) (e .expected .given .0 .0) (e .expected .given .0 .1 .0) (sym (e .expected .given .1) ∙ walked (e .before .before)), ne-eqb _ noChunk (λ q. c .if1 .left (q ∙ sym (c .before .no-chunk .ensures))))
 
 pub tree-right-spec : {M : Type 1} → statement M
 tree-right-spec =
@@ -52,6 +59,8 @@ tree-right-spec =
     walk-tree-requires
     enum-told
     enum-known-expected
+    no-chunk-requires
+    cast-if1
     returns
     returns-2
     returns-3)

@@ -2,7 +2,7 @@ use borrow.Author.Needs.{needs}
 use borrow.Author.Tests.{eq-eqb, ne-eqb}
 use mathlib.Core.Path.{refl}
 use native.Mathlib.Omega.{arith}
-use Rattle.tree.specs.Shape.{noChunk}
+use Rattle.refusals.specs.Refusals.{noChunk}
 use Rattle.walk.specs.Walk.{isOver}
 use Rattle.walk.proofs.is_over.Statement.{statement}
 use Rattle.walk.proofs.is_over.Tie as tie

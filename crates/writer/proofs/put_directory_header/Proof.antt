@@ -5,6 +5,7 @@ use native.Mathlib.Omega.{arith}
 use lib.Seq.{sets}
 use Rattle.fields.proofs.Put.{put-inside}
 use Rattle.compose.proofs.Words.{length-words}
+use Rattle.layout.specs.Headers.{unknownWord}
 use Rattle.writer.proofs.Fields.{directory-words}
 use borrow.Author.Needs.{needs}
 use Rattle.writer.proofs.put_directory_header.Statement.{statement}
@@ -26,8 +27,8 @@ returns c =
     ∙ put-inside (a .out .now) 0x78 _ (omega (
       arith,
       c .before .before .before .before .before .before .pre,
-      length-words (0x5053_5449 ∷ 1 ∷ 0x54 ∷ 0x0A ∷ 4096 ∷ a .density ∷ a .depth ∷ a .root ∷ 0 ∷ a .last ∷ 0xFFFF_FFFF ∷ a .count ∷ a .language
-          ∷ 0x5D02_926A ∷ 0x11D0_212E ∷ 0xA000_F99D ∷ 0xECE6_22C9 ∷ 0x54 ∷ 0xFFFF_FFFF ∷ 0xFFFF_FFFF ∷ 0xFFFF_FFFF ∷ []),
+      length-words (0x5053_5449 ∷ 1 ∷ 0x54 ∷ 0x0A ∷ 4096 ∷ a .density ∷ a .depth ∷ a .root ∷ 0 ∷ a .last ∷ unknownWord ∷ a .count ∷ a .language
+          ∷ 0x5D02_926A ∷ 0x11D0_212E ∷ 0xA000_F99D ∷ 0xECE6_22C9 ∷ 0x54 ∷ unknownWord ∷ unknownWord ∷ unknownWord ∷ []),
     ))
     ∙ ap (sets (a .out .now) 0x78) (directory-words (a .language) (a .density) (a .depth) (a .root) (a .last) (a .count))
 

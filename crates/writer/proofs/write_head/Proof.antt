@@ -11,6 +11,7 @@ use Rattle.layout.proofs.Cut.{takes-told}
 use Rattle.layout.proofs.Filled.{leaves-some, list-whole}
 use Rattle.layout.proofs.Places.{length-head}
 use Rattle.writer.specs.Plan.{limits, Made}
+use Rattle.writer.specs.declared.Written.the-variants.{Refused}
 use Rattle.writer.proofs.Answers.{limits-dense, takes-both, takes-limits, takes-right, answer-18, answer-19, answer-20, answer-head, made-small, spacing-is}
 use borrow.Author.Needs.{needs}
 use Rattle.writer.proofs.write_head.Statement.{statement}
@@ -36,11 +37,11 @@ made c = rw (spaced (c .before .before .before .before .before)) at ((rw (c .sha
 is-taken-requires : tie.Need-is-taken-requires
 is-taken-requires c κs = search needs
 
-refusal-requires : tie.Need-refusal-requires
-refusal-requires c κs = search needs
+refuse-requires : tie.Need-refuse-requires
+refuse-requires c κs = search needs
 
 returns : tie.Need-returns
-returns c = let a = c .before .before .before .before .before .args in answer-18 (now (a .entries)) (a .density) (a .time) (a .language) (a .content-length) (now (a .out)) _ (c .refusal .ensures) (takes-limits _ _ (now (a .entries)) (failed (c .before .before .is-taken .ensures) (c .before .if1 .taken)))
+returns c = let a = c .before .before .before .before .before .args in answer-18 (now (a .entries)) (a .density) (a .time) (a .language) (a .content-length) (now (a .out)) _ (ap Refused (c .refuse .ensures)) (takes-limits _ _ (now (a .entries)) (failed (c .before .before .is-taken .ensures) (c .before .if1 .taken)))
 
 spacing-requires : tie.Need-spacing-requires
 spacing-requires c κs = search needs
@@ -54,14 +55,14 @@ plan-requires c κs = search needs
 enum-told : tie.Need-enum-told
 enum-told c = search needs
 
-refusal-requires-2 : tie.Need-refusal-requires-2
-refusal-requires-2 c κs = search needs
+refuse-requires-2 : tie.Need-refuse-requires-2
+refuse-requires-2 c κs = search needs
 
 enum-told-2 : tie.Need-enum-told-2
 enum-told-2 c = search needs
 
-refusal-requires-3 : tie.Need-refusal-requires-3
-refusal-requires-3 c κs = search needs
+refuse-requires-3 : tie.Need-refuse-requires-3
+refuse-requires-3 c κs = search needs
 
 enum-known-shape : tie.Need-enum-known-shape
 enum-known-shape c = search needs
@@ -72,14 +73,14 @@ mul-len c = omega (arith, made (c .before) .small)
 add-len : tie.Need-add-len
 add-len c = omega (arith, made (c .before) .small)
 
-refusal-requires-4 : tie.Need-refusal-requires-4
-refusal-requires-4 c κs = search needs
+refuse-requires-4 : tie.Need-refuse-requires-4
+refuse-requires-4 c κs = search needs
 
 returns-2 : tie.Need-returns-2
 returns-2 c =
     let w = made (c .before .before .before) in
     let a = c .before .before .before .before .before .before .before .before .before .before .before .before .before .args in
-    answer-20 (now (a .entries)) (a .density) (a .time) (a .language) (a .content-length) (now (a .out)) (taken (c .before .before .before)) (made-small _ _ _ _ _ _ w) _ (w .counted) _ (c .refusal4 .ensures) (c .before .if2 .taken)
+    answer-20 (now (a .entries)) (a .density) (a .time) (a .language) (a .content-length) (now (a .out)) (taken (c .before .before .before)) (made-small _ _ _ _ _ _ w) _ (w .counted) _ (ap Refused (c .refuse4 .ensures)) (c .before .if2 .taken)
 
 slice-aggregate-put-head : tie.Need-slice-aggregate-put-head
 slice-aggregate-put-head c = search needs
@@ -104,14 +105,14 @@ returns-3 : tie.Need-returns-3
 returns-3 c =
     let p = c .before .before .before .before in
     let a = p .before .before .before .before .before .before .before .args in
-    answer-18 (now (a .entries)) (a .density) (a .time) (a .language) (a .content-length) (now (a .out)) _ (c .refusal2 .ensures) (takes-right _ _ _ (rw (c .before .enum-told .given .1) at (p .plan .ensures)))
+    answer-18 (now (a .entries)) (a .density) (a .time) (a .language) (a .content-length) (now (a .out)) _ (ap Refused (c .refuse2 .ensures)) (takes-right _ _ _ (rw (c .before .enum-told .given .1) at (p .plan .ensures)))
 
 returns-4 : tie.Need-returns-4
 returns-4 c =
     let p = c .before .before .before .before in
     let a = p .before .before .before .before .before .before .before .args in
     let q = rw (c .before .enum-told2 .given .1) at (p .plan .ensures) in
-    answer-19 (now (a .entries)) (a .density) (a .time) (a .language) (a .content-length) (now (a .out)) _ (c .refusal3 .ensures) (takes-both _ _ _ (within (p .before .before .before)) (q .0)) (rw (spaced (p .before .before)) at (q .1))
+    answer-19 (now (a .entries)) (a .density) (a .time) (a .language) (a .content-length) (now (a .out)) _ (ap Refused (c .refuse3 .ensures)) (takes-both _ _ _ (within (p .before .before .before)) (q .0)) (rw (spaced (p .before .before)) at (q .1))
 
 same-length : tie.Need-same-length
 same-length c = search needs
@@ -130,19 +131,19 @@ write-head-spec =
     tie.close
     (tie.spec
     is-taken-requires
-    refusal-requires
+    refuse-requires
     returns
     spacing-requires
     slice-aggregate-plan
     plan-requires
     enum-told
-    refusal-requires-2
+    refuse-requires-2
     enum-told-2
-    refusal-requires-3
+    refuse-requires-3
     enum-known-shape
     mul-len
     add-len
-    refusal-requires-4
+    refuse-requires-4
     returns-2
     slice-aggregate-put-head
     put-head-requires

@@ -6,8 +6,8 @@ use mathlib.Core.List.{List}
 use Prim.Native.Nat.{ℕ}
 use native.Mathlib.Omega.{arith}
 use denote.Ref.{now}
+use Rattle.refusals.specs.declared.Refusal.{Refusal}
 use Rattle.header.specs.declared.Record.{Record}
-use Rattle.book.specs.declared.Refusal.{Refusal}
 use Rattle.opening.specs.Opened.{opened}
 use Rattle.opening.specs.declared.Opened.the-variants.{Book}
 use Rattle.walk.specs.Walk.{weight}

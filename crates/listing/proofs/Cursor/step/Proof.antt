@@ -3,6 +3,7 @@ use mathlib.Core.Path.{_≡_, sym, ap, _∙_}
 use mathlib.Core.Bool.{true}
 use denote.Ref.{now}
 use Rattle.fields.proofs.Tests.{held, failed}
+use Rattle.refusals.specs.Refusals.{noChunk}
 use Rattle.chunk.specs.declared.Chunk.the-variants.{Listing}
 use Rattle.book.specs.Book.{bookFits, metChunk}
 use Rattle.listing.specs.declared.Step.the-variants.{Refused}
@@ -14,9 +15,13 @@ use Rattle.listing.proofs.Cursor.step.Tie as tie
 fits-is : (c : tie.Else1) → let a = c .before .before .before .args in bookFits (now (a .file)) (a .book) ≡ true
 fits-is c = held (c .before .fits2 .ensures) (c .if1 .left)
 
-met-is : (c : tie.After-known-told) → let a = c .before .before .before .before .before .before .before .before .before .args in
+met-is : (c : tie.After-known-told) → let a = c .before .before .before .before .before .before .before .before .before .before .args in
     metChunk (now (a .file)) (a .book) (a .self .chunk) ≡ Listing (c .before .next .given .0 .0) (c .before .next .given .0 .1 .0)
 met-is c = sym (c .before .before .before .met .ensures) ∙ c .before .next .given .1
+
+-- the cursor is not at the end
+another : (c : tie.Else2) → c .before .before .before .before .before .before .args .self .chunk ≡ noChunk → ⊥
+another c q = c .if2 .left (q ∙ sym (c .before .before .no-chunk .ensures))
 
 fits-requires : tie.Need-fits-requires
 fits-requires c κs = search needs
@@ -29,10 +34,16 @@ returns c =
     let a = c .before .before .before .before .args in
     ap Refused (c .refuse .ensures) ∙ sym (step-unfit (now (a .file)) (a .book) (a .self) (failed (c .before .before .fits2 .ensures) (c .before .if1 .taken)))
 
+no-chunk-requires : tie.Need-no-chunk-requires
+no-chunk-requires c κs = search needs
+
+cast-if2 : tie.Need-cast-if2
+cast-if2 c = search needs
+
 returns-2 : tie.Need-returns-2
 returns-2 c =
-    let a = c .before .before .before .before .before .args in
-    sym (step-end (now (a .file)) (a .book) (a .self) (fits-is (c .before .before)) (c .if2 .taken))
+    let a = c .before .before .before .before .before .before .args in
+    sym (step-end (now (a .file)) (a .book) (a .self) (fits-is (c .before .before .before)) (c .if2 .taken ∙ c .before .before .no-chunk .ensures))
 
 met-requires : tie.Need-met-requires
 met-requires c κs = search needs
@@ -42,7 +53,7 @@ enum-known-next c = search needs
 
 step-in-requires : tie.Need-step-in-requires
 step-in-requires c κs =
-    let a = c .before .before .before .before .before .before .before .before .before .args in
+    let a = c .before .before .before .before .before .before .before .before .before .before .args in
     let m = met-listing (now (a .file)) (a .book) (a .self .chunk) _ _ (met-is c) in
     (m .kind, m .next-is)
 
@@ -60,25 +71,25 @@ refuse-requires-3 c κs = search needs
 
 returns-3 : tie.Need-returns-3
 returns-3 c =
-    let a = c .before .before .before .before .before .before .before .before .before .before .args in
+    let a = c .before .before .before .before .before .before .before .before .before .before .before .args in
     let e = c .before .before .before .before .before in
     let m = met-listing (now (a .file)) (a .book) (a .self .chunk) _ _ (met-is (c .before)) in
-    c .step-in .ensures ∙ sym (step-entry (now (a .file)) (a .book) (a .self) (fits-is (e .before .before)) (e .if2 .left) (m .below))
+    c .step-in .ensures ∙ sym (step-entry (now (a .file)) (a .book) (a .self) (fits-is (e .before .before .before)) (another e) (m .below))
 
 returns-4 : tie.Need-returns-4
 returns-4 c =
-    let a = c .before .before .before .before .before .before .before .before .before .args in
+    let a = c .before .before .before .before .before .before .before .before .before .before .args in
     let e = c .before .before .before .before in
     ap Refused (c .refuse2 .ensures)
-    ∙ sym (step-other (now (a .file)) (a .book) (a .self) (fits-is (e .before .before)) (e .if2 .left)
+    ∙ sym (step-other (now (a .file)) (a .book) (a .self) (fits-is (e .before .before .before)) (another e)
     (met-index (now (a .file)) (a .book) (a .self .chunk) (sym (c .before .before .before .met .ensures) ∙ c .before .enum-told .given .1)))
 
 returns-5 : tie.Need-returns-5
 returns-5 c =
-    let a = c .before .before .before .before .before .before .before .before .before .args in
+    let a = c .before .before .before .before .before .before .before .before .before .before .args in
     let e = c .before .before .before .before in
     ap Refused (c .refuse3 .ensures)
-    ∙ sym (step-other (now (a .file)) (a .book) (a .self) (fits-is (e .before .before)) (e .if2 .left)
+    ∙ sym (step-other (now (a .file)) (a .book) (a .self) (fits-is (e .before .before .before)) (another e)
     (met-refused (now (a .file)) (a .book) (a .self .chunk) _ (sym (c .before .before .before .met .ensures) ∙ c .before .enum-told2 .given .1)))
 
 pub step-spec : {M : Type 1} → statement M
@@ -88,6 +99,8 @@ step-spec =
     fits-requires
     refuse-requires
     returns
+    no-chunk-requires
+    cast-if2
     returns-2
     met-requires
     enum-known-next
