@@ -17,7 +17,6 @@ ghost use Rattle.writer.specs.Head.{written, outputFor};
 ghost use Rattle.numbers.specs.Numbers.{recordIn, openCode, openRecord, lookupCode, lookupNumbers, replyCode, replyNumbers, batchCode, cursorIn, cursorNumbers, stepCode, stepCursor, stepNumbers, ownCode, ownNumbers, pageCode, pageNumbers, partLength, writeCode, writeNumbers};
 ghost use Rattle.differences.specs.Differences.{walksIn, walksNumbers, compareCode, compareCursor, compareNumbers, compareTotals};
 use listing::Cursor;
-use refusals::Refusal;
 use numbers::Numbers;
 
 // The order of names: 0 where a comes before b, 1 where they are equal, 2 where a comes behind b.
