@@ -1,7 +1,7 @@
 -- The names, one behind another: what stands at a place, and how many there are.
 -- Assumes nothing.
 use mathlib.Core.Path.{_≡_, refl, ap, _∙_}
-use mathlib.Core.Bool.{Bool, true, false, cond}
+use mathlib.Core.Bool.{cond}
 use mathlib.Core.List.{List}
 use Prim.Native.Nat.{ℕ, zero, suc, _+_, _-_, _≤_, _<_}
 use native.Mathlib.Omega.{arith}
@@ -9,30 +9,25 @@ use lib.ListN.{length}
 use borrow.Author.Tests.{leb-true, lt-ltb, le-ltb}
 use Rattle.fields.specs.Part.{inside, part}
 use Rattle.encint.specs.Encint.{encintAt}
-use Rattle.encint.specs.declared.Number.{Number}
 use Rattle.encint.specs.declared.Number.the-variants.{Value, Bad}
 use Rattle.encint.proofs.Reading.{encint-next, bad-no-value}
-use Rattle.entries.specs.Entry.{withNumber}
+use Rattle.entries.proofs.Laws.{number-passed, test-passed}
 use Rattle.batch.specs.Batch.{Names, noMore, cut, push, askedAt, namesFrom, namesIn}
 use Rattle.batch.specs.Step.{countedAs}
-use Rattle.batch.specs.declared.Counted.{Counted}
 use Rattle.batch.specs.declared.Counted.the-variants.{All, Cut}
 
 -- a name that is there lies inside, behind its place
 pub asked-inside : (s : List ℕ) (at n p : ℕ) → askedAt s at ≡ Value n p → (at < p) × (p + n ≤ length s)
 unfolding askedAt
-asked-inside s at n p e = go (encintAt s at) refl e
-  where
-    tested : (m q : ℕ) → at < q → (t : Bool) → inside s q m ≡ t → cond t (Value m q) Bad ≡ Value n p → (at < p) × (p + n ≤ length s)
-    tested m q l true h d =
-        let x : m ≡ n = cc in
-        let y : q ≡ p = cc in
-        omega (arith, leb-true (q + m) (length s) h)
-    tested m q l false h d = bad-no-value d
-
-    go : (r : Number) → encintAt s at ≡ r → withNumber r Bad (λ m q. cond (inside s q m) (Value m q) Bad) ≡ Value n p → (at < p) × (p + n ≤ length s)
-    go Bad q d = bad-no-value d
-    go (Value m x) q d = tested m x (encint-next s at q .0) (inside s x m) refl d
+asked-inside s at n p e =
+    let r = number-passed (encintAt s at) Bad (λ m q. cond (inside s q m) (Value m q) Bad) (Value n p) bad-no-value e in
+    let m : ℕ = r .0 in
+    let q : ℕ = r .1 in
+    let t = test-passed (inside s q m) (Value m q) Bad (Value n p) bad-no-value (r .3) in
+    let v = t .1 in
+    let x : m ≡ n = cc in
+    let y : q ≡ p = cc in
+    omega (arith, encint-next s at (r .2) .0, leb-true (q + m) (length s) (t .0))
 
 -- ---- the names from a place on, f of them at most
 

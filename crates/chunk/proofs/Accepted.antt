@@ -2,8 +2,8 @@
 -- Assumes nothing.
 use mathlib.Core.Path.{_≡_, refl, sym, ap, subst, _∙_}
 use mathlib.Core.List.{List, [], _∷_}
-use mathlib.Core.Bool.{Bool, true, false, cond, not, _&&_}
-use Prim.Native.Nat.{ℕ, zero, suc, _+_, _-_, _*_, _/_, _≤_, _<_}
+use mathlib.Core.Bool.{Bool, true, false, cond, _&&_}
+use Prim.Native.Nat.{ℕ, zero, suc, _+_, _-_, _*_, _≤_, _<_}
 use native.Mathlib.Omega.{arith}
 use lib.ListN.{length}
 use lib.Dec.{ltb, leb, eqb}
@@ -15,10 +15,10 @@ use Rattle.entries.specs.declared.Limits.{Limits}
 use Rattle.entries.specs.declared.Place.{Place}
 use Rattle.entries.specs.declared.Item.{Item}
 use Rattle.entries.specs.declared.Item.the-variants.{Good, Bad}
-use Rattle.chunk.specs.Chunk.{Entry, Entries, broken, all, Parsed, bad, listing, index, tagOf, made, push, entryOf, entriesAt, rising, quick, quickCount, headOf, countOf, tailOf, spacingOf, framed, judged, parsedAs, parsed, faultOf, entriesIn, isKind}
+use Rattle.entries.specs.Rising.{rising}
+use Rattle.chunk.specs.Chunk.{Entry, Entries, broken, all, Parsed, bad, listing, index, tagOf, made, push, entryOf, entriesAt, quick, quickCount, headOf, countOf, tailOf, spacingOf, framed, judged, parsedAs, parsed, faultOf, entriesIn, isKind, entryName}
 use Rattle.chunk.specs.Answer.{chunkOf}
-use Rattle.chunk.specs.declared.Chunk.{Chunk}
-use Rattle.chunk.specs.declared.Chunk.the-variants.{Refused, Listing, Index}
+use Rattle.chunk.specs.declared.Chunk.the-variants.{Refused}
 
 -- ---- as many entries as were asked for
 
@@ -61,17 +61,17 @@ pub record Accepted (limits : Limits) (k : Bool) (s : List ℕ) (es : List Entry
   pub some : 0 < countOf s
   pub tail : tailOf s ≤ 4096
   pub entries : entriesAt limits k s (4096 - tailOf s) (countOf s) (headOf k) ≡ all es
-  pub rises : rising [] es ≡ true
+  pub rises : rising entryName [] es ≡ true
   pub words : quick s (spacingOf (limits .density)) (headOf k) 0 es ≡ true
 
 -- what is known of p, the meaning of the entries r, where it is of the kind j
 abbrev Judged : ℕ → Bool → Bool → List ℕ → Entries → Parsed → Type 0
-Judged n k j s r p = isKind j p ≡ true → (k ≡ j) × (r ≡ all (entriesIn p)) × (rising [] (entriesIn p) ≡ true) × (quick s n (headOf k) 0 (entriesIn p) ≡ true)
+Judged n k j s r p = isKind j p ≡ true → (k ≡ j) × (r ≡ all (entriesIn p)) × (rising entryName [] (entriesIn p) ≡ true) × (quick s n (headOf k) 0 (entriesIn p) ≡ true)
 
 judged-good : (n : ℕ) (k j : Bool) (s : List ℕ) (r : Entries) → Judged n k j s r (judged n k s r)
 unfolding judged
 judged-good n k j s broken h = never h
-judged-good n k j s (all es) h = go (rising [] es) (quick s n (headOf k) 0 es) refl refl h
+judged-good n k j s (all es) h = go (rising entryName [] es) (quick s n (headOf k) 0 es) refl refl h
   where
     kind : (k j : Bool) → isKind j (made k s es) ≡ true → (k ≡ j) × (entriesIn (made k s es) ≡ es)
     kind true true h = (refl, refl)
@@ -79,7 +79,7 @@ judged-good n k j s (all es) h = go (rising [] es) (quick s n (headOf k) 0 es) r
     kind false true h = never h
     kind false false h = (refl, refl)
 
-    go : (a b : Bool) → rising [] es ≡ a → quick s n (headOf k) 0 es ≡ b → Judged n k j s (all es) (cond a (cond b (made k s es) (bad 11)) (bad 12))
+    go : (a b : Bool) → rising entryName [] es ≡ a → quick s n (headOf k) 0 es ≡ b → Judged n k j s (all es) (cond a (cond b (made k s es) (bad 11)) (bad 12))
     go true true u v h = let g = kind k j h in (g .0, rw (g .1), rw (g .1) u, rw (g .1) v)
     go true false u v h = never h
     go false b u v h = never h
@@ -138,7 +138,7 @@ refused (index es) r e h = absurd (h e)
 judged-made : (n : ℕ) (k : Bool) (s : List ℕ) (r : Entries) → faultOf (judged n k s r) ≡ 0 → chunkOf (judged n k s r) ≡ chunkOf (made k s [])
 unfolding judged faultOf
 judged-made n k s broken e = absurd (omega arith)
-judged-made n k s (all es) e = go (rising [] es) (quick s n (headOf k) 0 es) k e
+judged-made n k s (all es) e = go (rising entryName [] es) (quick s n (headOf k) 0 es) k e
   where
     go : (a b k : Bool) → faultOf (cond a (cond b (made k s es) (bad 11)) (bad 12)) ≡ 0 → chunkOf (cond a (cond b (made k s es) (bad 11)) (bad 12)) ≡ chunkOf (made k s [])
     go true true true e = refl

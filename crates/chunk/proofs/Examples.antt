@@ -11,7 +11,8 @@ use Rattle.names.specs.Order.{byNumber, byElement}
 use Rattle.names.specs.Names.{folded, compared, below}
 use Rattle.entries.specs.Entry.{nameAt, listingAt, itemAt}
 use Rattle.entries.specs.declared.Limits.{Limits}
-use Rattle.chunk.specs.Chunk.{listing, spacingOf, quickCount, entriesAt, rising, quick, quickAt, framed, judged, parsedAs, parsed}
+use Rattle.entries.specs.Rising.{rising}
+use Rattle.chunk.specs.Chunk.{listing, spacingOf, quickCount, entriesAt, quick, quickAt, framed, judged, parsedAs, parsed}
 
 unfoldable pub sample : List ℕ
 sample =

@@ -1,14 +1,13 @@
 -- A chunk of a known kind, over the numbers that were read; the spacing of a high density may be exchanged.
 -- Assumes nothing.
-use mathlib.Core.Path.{_≡_, refl, sym, ap, _∙_}
-use mathlib.Core.List.{List, []}
+use mathlib.Core.Path.{_≡_, refl}
+use mathlib.Core.List.{List}
 use mathlib.Core.Bool.{Bool, true, false, cond, _&&_}
-use Prim.Native.Nat.{ℕ, _+_, _-_, _*_, _/_, _≤_, _<_, min}
+use Prim.Native.Nat.{ℕ, _+_, _-_, _*_, _≤_, _<_, min}
 use native.Mathlib.Omega.{arith}
-use lib.ListN.{length}
 use lib.Dec.{ltb, leb}
 use Rattle.entries.specs.declared.Limits.{Limits}
-use Rattle.chunk.specs.Chunk.{Entries, broken, all, bad, made, entriesAt, rising, quick, headOf, countOf, quickCount, tailOf, spacingOf, framed, judged, parsedAs}
+use Rattle.chunk.specs.Chunk.{Entries, broken, all, bad, entriesAt, headOf, countOf, quickCount, tailOf, spacingOf, framed, judged, parsedAs}
 use Rattle.chunk.proofs.Accepted.{entries-count}
 use Rattle.chunk.proofs.Quick.{Alike, quick-alike, capped}
 

@@ -3,4 +3,3 @@ pub mod Quick
 pub mod Accepted
 pub mod Frame
 pub mod Examples
-pub mod Rising

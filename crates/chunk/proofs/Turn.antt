@@ -6,7 +6,7 @@
 --     at-end      behind the last entry it is read off the flags
 -- Assumes nothing.
 use mathlib.Core.Path.{_≡_, refl, sym, ap, _∙_}
-use mathlib.Core.List.{List, [], _∷_}
+use mathlib.Core.List.{List, []}
 use mathlib.Core.Bool.{Bool, true, false, cond, _&&_, and-assoc}
 use Prim.Native.Nat.{ℕ, suc, _+_, _-_, _≤_, _<_}
 use native.Mathlib.Omega.{arith}
@@ -16,17 +16,18 @@ use Rattle.entries.specs.Entry.{itemAt, nameOf}
 use Rattle.entries.specs.declared.Limits.{Limits}
 use Rattle.entries.specs.declared.Place.{Place}
 use Rattle.entries.specs.declared.Item.the-variants.{Good, Bad}
-use Rattle.chunk.specs.Chunk.{Entry, Entries, broken, all, bad, made, push, entryOf, entriesAt, rising, quick, quickAt, headOf, judged, faultOf}
+use Rattle.entries.specs.Rising.{rising}
+use Rattle.chunk.specs.Chunk.{Entry, Entries, broken, all, bad, made, push, entryOf, entriesAt, quick, quickAt, headOf, judged, faultOf, entryName}
 
 module _ (n : ℕ) (k : Bool) (s : List ℕ) where
   unfoldable pub outcome : Bool → Bool → ℕ → List ℕ → Entries → ℕ
   outcome o q i last broken = 10
-  outcome o q i last (all es) = cond (o && rising last es) (cond (q && quick s n (headOf k) i es) 0 11) 12
+  outcome o q i last (all es) = cond (o && rising entryName last es) (cond (q && quick s n (headOf k) i es) 0 11) 12
 
   pub at-start : (r : Entries) → outcome true true 0 [] r ≡ faultOf (judged n k s r)
   unfolding outcome judged faultOf
   at-start broken = refl
-  at-start (all es) = go (rising [] es) (quick s n (headOf k) 0 es) k
+  at-start (all es) = go (rising entryName [] es) (quick s n (headOf k) 0 es) k
     where
       go : (a b c : Bool) → cond a (cond b 0 11) 12 ≡ faultOf (cond a (cond b (made c s es) (bad 11)) (bad 12))
       go true true true = refl

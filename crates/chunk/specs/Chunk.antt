@@ -7,8 +7,8 @@ use lib.ListN.{length}
 use lib.Dec.{ltb, leb, eqb}
 use Rattle.fields.specs.Le.{le}
 use Rattle.fields.specs.Same.{standsAt}
-use Rattle.names.specs.Names.{below}
 use Rattle.entries.specs.Entry.{withItem, itemAt, nameOf}
+use Rattle.entries.specs.Rising.{rising}
 use Rattle.entries.specs.declared.Limits.{Limits}
 use Rattle.entries.specs.declared.Place.{Place}
 
@@ -24,6 +24,9 @@ pub record Entry : Type 0 where
   pub size : ℕ
   pub child : ℕ
   pub next : ℕ
+
+abbrev pub entryName : Entry → List ℕ
+entryName e = e .name
 
 -- `bad` has the refusal's number, `listing` the previous and the next listing chunk
 pub data Parsed : Type 0 where
@@ -84,13 +87,6 @@ unfoldable pub entriesAt : Limits → Bool → List ℕ → ℕ → ℕ → ℕ 
 entriesAt limits k s end zero at = cond (eqb at end) (all []) broken
 entriesAt limits k s end (suc n) at = withItem (itemAt limits k s at) broken (λ e. push (entryOf s e) (entriesAt limits k s end n (e .next)))
 
--- ---- the order: refusal 12
-
--- each name comes after the one before it, and the first after `last`; no name is before every name
-unfoldable pub rising : List ℕ → List Entry → Bool
-rising last [] = true
-rising last (e ∷ es) = below last (e .name) && rising (e .name) es
-
 -- ---- the quick words: refusal 11
 
 -- word k, from 1 on: backward from the chunk's end, two bytes apart
@@ -116,10 +112,10 @@ abbrev pub made : Bool → List ℕ → List Entry → Parsed
 made true s es = listing (le 4 s 12) (le 4 s 16) es
 made false s es = index es
 
--- entries that were read, by the rules on all of them
+-- entries that were read, by the rules on all of them: their names rise, refusal 12, and their quick words are right, refusal 11
 unfoldable pub judged : ℕ → Bool → List ℕ → Entries → Parsed
 judged n k s broken = bad 10
-judged n k s (all es) = cond (rising [] es) (cond (quick s n (headOf k) 0 es) (made k s es) (bad 11)) (bad 12)
+judged n k s (all es) = cond (rising entryName [] es) (cond (quick s n (headOf k) 0 es) (made k s es) (bad 11)) (bad 12)
 
 -- a chunk of 4,096 bytes of a known kind, with n entries from one quick word to the next
 unfoldable pub parsedAs : ℕ → Limits → Bool → List ℕ → Parsed

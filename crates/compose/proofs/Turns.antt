@@ -2,7 +2,7 @@
 -- Assumes nothing.
 use mathlib.Core.Path.{_≡_, refl, sym, ap, ap₂, _∙_}
 use mathlib.Core.Bool.{Bool}
-use mathlib.Core.List.{List, [], _∷_, _++_, map}
+use mathlib.Core.List.{List, [], _∷_, _++_, map, flatMap}
 use Prim.Native.Nat.{ℕ, zero, suc, _+_, _-_, _*_, _/_, _≤_, _<_}
 use native.Mathlib.Omega.{arith}
 use lib.ListN.{length, take, drop, replicate, length-append, length-drop, length-map, length-replicate, replicate-append-replicate}
@@ -73,7 +73,7 @@ module _ (content : ℕ) (s starts : List ℕ) (k : Bool) (all from n : ℕ) whe
     pub is : out ≡ made (f .count)
 
   pub putting-start : (out : List ℕ) → length out ≡ 4096 → out ≡ replicate (length out) 0 → Putting out (record { count = 0; bytes = 0; at = from; left = all })
-  unfolding runBytes
+  unfolding flatMap
   putting-start out l h =
       record {
         few = omega arith;

@@ -17,7 +17,7 @@ use Rattle.chunk.specs.Chunk.{headOf, quickCount}
 use Rattle.chunk.proofs.Frame.{head-small}
 use Rattle.entries.specs.Stored.{Stored, storedOf}
 use Rattle.source.specs.Source.{rowsFrom}
-use Rattle.source.proofs.All.{All, all-take, all-weaken}
+use Rattle.fields.proofs.Lists.{All, all-take, all-weaken}
 use Rattle.source.proofs.Rows.{Row, rows-all}
 use Rattle.pack.specs.Groups.{fits, taken}
 use Rattle.pack.specs.Fill.{rowSize, extentFrom}

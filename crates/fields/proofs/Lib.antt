@@ -1,4 +1,5 @@
 pub mod Le
+pub mod Lists
 pub mod Parts
 pub mod Put
 pub mod Same

@@ -11,10 +11,11 @@ use lib.Dec.{ltb, leb, eqb}
 use borrow.Author.Tests.{leb-true, ltb-true}
 use Rattle.fields.proofs.Tests.{and-both}
 use Rattle.chunk.specs.Chunk.{spacingOf}
-use Rattle.entries.specs.Stored.{Stored, storedOf, rises}
+use Rattle.entries.specs.Rising.{rising}
+use Rattle.entries.specs.Stored.{Stored, storedOf, storedName}
 use Rattle.source.specs.Source.{endOf}
 use Rattle.source.specs.Input.{placesOf, given, inputRight, allUnpadded}
-use Rattle.source.proofs.All.{All, all-weaken, all-parts}
+use Rattle.fields.proofs.Lists.{All, all-weaken, all-parts}
 use Rattle.source.proofs.Kept.{Kept, given-kept}
 use Rattle.pack.specs.Groups.{fits}
 use Rattle.pack.specs.Levels.{entrySize, level}
@@ -27,7 +28,7 @@ pub record Cut (density content : ℕ) (es : List Stored) (gs : List (List Store
   pub dense : density ≤ 7
   pub small : content < 2 ^ 62
   pub some : 0 < length es
-  pub order : rises [] es ≡ true
+  pub order : rising storedName [] es ≡ true
   pub kept : All (Kept content) es
   pub whole : flatten gs ≡ es
   pub fit : All (Fit (entrySize true) (fits true (spacingOf density))) gs
@@ -40,14 +41,14 @@ takes-told density content s h =
     let es = given content s in
     let a = and-both (leb density 7) (ltb content (2 ^ 62) && inputRight content s) h in
     let b = and-both (ltb content (2 ^ 62)) (inputRight content s) (a .1) in
-    let c = and-both (ltb 0 (length (placesOf content s))) (eqb (endOf 0 (placesOf content s)) (length s) && (allUnpadded s (placesOf content s) && rises [] es)) (b .1) in
-    let d = and-both (eqb (endOf 0 (placesOf content s)) (length s)) (allUnpadded s (placesOf content s) && rises [] es) (c .1) in
+    let c = and-both (ltb 0 (length (placesOf content s))) (eqb (endOf 0 (placesOf content s)) (length s) && (allUnpadded s (placesOf content s) && rising storedName [] es)) (b .1) in
+    let d = and-both (eqb (endOf 0 (placesOf content s)) (length s)) (allUnpadded s (placesOf content s) && rising storedName [] es) (c .1) in
     let k = given-kept content s in
     record {
       dense = leb-true density 7 (a .0);
       small = ltb-true content (2 ^ 62) (b .0);
       some = omega (arith, length-map (placesOf content s) (storedOf s), ltb-true 0 (length (placesOf content s)) (c .0));
-      order = and-both (allUnpadded s (placesOf content s)) (rises [] es) (d .1) .1;
+      order = and-both (allUnpadded s (placesOf content s)) (rising storedName [] es) (d .1) .1;
       kept = k;
       whole = groups-flat (entrySize true) (fits true n) es;
       fit = level-fit n true es (all-weaken (λ (e : Stored) (k : Kept content e). k .short) k);
@@ -62,7 +63,7 @@ module _ (density content : ℕ) (es : List Stored) (gs : List (List Stored)) (c
   pub cut-ordered : Ordered gs
   cut-ordered =
       record {
-        order = ap (rises []) (c .whole) ∙ c .order;
+        order = ap (rising storedName []) (c .whole) ∙ c .order;
         some = all-weaken (λ (g : List Stored) (f : Fit (entrySize true) (fits true (spacingOf density)) g). f .some) (c .fit);
         named = all-weaken (λ (g : List Stored) (ks : All (Kept content) g). all-weaken (λ (e : Stored) (k : Kept content e). k .some) ks) cut-kept;
         short = all-weaken (λ (g : List Stored) (ks : All (Kept content) g). all-weaken (λ (e : Stored) (k : Kept content e). k .short) ks) cut-kept;

@@ -8,7 +8,7 @@ use native.Mathlib.Omega.{arith}
 use lib.ListN.{length}
 use Rattle.chunk.specs.Chunk.{quickCount, spacingOf}
 use Rattle.entries.specs.Stored.{Stored}
-use Rattle.source.proofs.All.{All, none, more, all-append}
+use Rattle.fields.proofs.Lists.{All, none, more, all-append}
 use Rattle.pack.specs.Groups.{fits}
 use Rattle.pack.specs.Levels.{entrySize}
 use Rattle.pack.proofs.Groups.{Fit, sizes}

@@ -8,7 +8,7 @@ use lib.ListN.{length, getD, length-append}
 use lib.Seq.{take-at, drop-at, drop-append-add}
 use Rattle.fields.specs.Part.{part}
 use Rattle.chunk.specs.Chunk.{spacingOf}
-use Rattle.source.proofs.All.{All}
+use Rattle.fields.proofs.Lists.{All}
 use Rattle.layout.specs.Headers.{headLength, fileHeader, sectionZero, directoryHeader}
 use Rattle.layout.specs.Layout.{Layout, chunkCount, depthOf, rootOf, chunkList, headBytes}
 use Rattle.layout.proofs.Sizes.{length-file, length-section, length-directory, length-list, length-flat}

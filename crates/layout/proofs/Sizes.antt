@@ -8,7 +8,7 @@ use native.Mathlib.Omega.{arith}
 use lib.ListN.{length, length-append}
 use Rattle.fields.specs.Le.{bytes}
 use Rattle.entries.specs.Stored.{Stored}
-use Rattle.source.proofs.All.{All, none, more}
+use Rattle.fields.proofs.Lists.{All, none, more}
 use Rattle.layout.specs.Headers.{fileHeader, sectionZero, directoryHeader}
 use Rattle.layout.specs.Layout.{Layout, chunkCount, chunksOf, chunkList}
 

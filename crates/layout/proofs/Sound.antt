@@ -7,8 +7,9 @@ use Prim.Native.Nat.{ℕ, zero, suc, _+_, _≤_, _<_}
 use native.Mathlib.Omega.{arith}
 use lib.ListN.{length, length-append}
 use lib.Dec.{leb}
-use Rattle.entries.specs.Stored.{Stored, rises}
-use Rattle.source.proofs.All.{All, none, more, all-weaken, all-append, all-parts}
+use Rattle.entries.specs.Rising.{rising}
+use Rattle.entries.specs.Stored.{Stored, storedName}
+use Rattle.fields.proofs.Lists.{All, none, more, all-weaken, all-append, all-parts}
 use Rattle.pack.specs.Groups.{fits}
 use Rattle.pack.specs.Levels.{entrySize, level, firstName, childrenOf, levelsAbove}
 use Rattle.pack.proofs.Groups.{Fit, groups-flat}
@@ -26,12 +27,12 @@ pub record Child (bound : ℕ) (e : Stored) : Type 0 where
 
 -- a group of them
 pub record Sound (bound : ℕ) (g : List Stored) : Type 0 where
-  pub order : rises [] g ≡ true
+  pub order : rising storedName [] g ≡ true
   pub entries : All (Child bound) g
 
 -- what is known of the chunks of a level
 pub record Ordered (gs : List (List Stored)) : Type 0 where
-  pub order : rises [] (flatten gs) ≡ true
+  pub order : rising storedName [] (flatten gs) ≡ true
   pub some : All Some gs
   pub named : All (All Named) gs
   pub short : All (All Short) gs
@@ -50,7 +51,7 @@ module _ (n : ℕ) where
   abbrev up : ℕ → List (List Stored) → List (List Stored)
   up c gs = level n false (childrenOf c gs)
 
-  pub ordered-level : (k : Bool) (es : List Stored) → rises [] es ≡ true → All Named es → All Short es → Ordered (level n k es)
+  pub ordered-level : (k : Bool) (es : List Stored) → rising storedName [] es ≡ true → All Named es → All Short es → Ordered (level n k es)
   ordered-level k es r ns ss =
       let flat = groups-flat (entrySize k) (fits k n) es in
       record {
@@ -74,7 +75,7 @@ module _ (n : ℕ) where
         let flat = groups-flat (entrySize false) (fits false n) (childrenOf c gs) in
         both (up c gs) (groups-rise [] (up c gs) (above-ordered .named) (above-ordered .order)) (all-parts (up c gs) (subst (All (Child bound)) (sym flat) above))
       where
-        both : (xs : List (List Stored)) → All (λ (g : List Stored). rises [] g ≡ true) xs → All (All (Child bound)) xs → All (Sound bound) xs
+        both : (xs : List (List Stored)) → All (λ (g : List Stored). rising storedName [] g ≡ true) xs → All (All (Child bound)) xs → All (Sound bound) xs
         both [] none none = none
         both (x ∷ xs) (more r rs) (more e es) = more (record { order = r; entries = e }) (both xs rs es)
 

@@ -10,7 +10,7 @@ use lib.ListN.{length, getD, List·getD-append}
 use lib.Seq.{take-at, drop-append-add, getD-append-add}
 use Rattle.fields.specs.Part.{part}
 use Rattle.entries.specs.Stored.{Stored}
-use Rattle.source.proofs.All.{All, none, more}
+use Rattle.fields.proofs.Lists.{All, none, more}
 use Rattle.compose.specs.NewChunk.{newChunk}
 use Rattle.layout.specs.Layout.{Layout, prevOf, nextOf, chunksOf, chunkList}
 use Rattle.layout.proofs.Sizes.{length-chunks}

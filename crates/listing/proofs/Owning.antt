@@ -25,7 +25,8 @@ use Rattle.listing.specs.declared.Step.{Step}
 use Rattle.listing.specs.declared.Step.the-variants.{Entry as Reported}
 use Rattle.listing.specs.declared.Owned.{Owned}
 use Rattle.listing.specs.declared.Owned.the-variants.{At, Nothing}
-use Rattle.listing.proofs.Read.{nth-read, nth-hit, nth-nothing}
+use Rattle.seek.proofs.Steps.{nth-read}
+use Rattle.listing.proofs.Read.{nth-hit, nth-nothing}
 use Rattle.listing.proofs.Stepping.{entry-absent, step-unfit, step-end, step-other, step-entry, some-chunk}
 
 module _ (s : List ℕ) (book : Record) (at : Cursor) where

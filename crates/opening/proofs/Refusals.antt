@@ -13,7 +13,8 @@ use Rattle.fields.specs.Same.{standsAt}
 use Rattle.refusals.specs.Refusals.{noChunk, refusalOf, refusalAt}
 use Rattle.refusals.specs.declared.Refusal.{Refusal}
 use Rattle.entries.specs.declared.Limits.{Limits}
-use Rattle.chunk.specs.Chunk.{Entries, broken, all, Parsed, bad, tagOf, made, entriesAt, rising, quick, headOf, countOf, tailOf, spacingOf, framed, judged, parsedAs, parsed, faultOf}
+use Rattle.entries.specs.Rising.{rising}
+use Rattle.chunk.specs.Chunk.{Entries, broken, all, Parsed, bad, tagOf, made, entriesAt, quick, headOf, countOf, tailOf, spacingOf, framed, judged, parsedAs, parsed, faultOf, entryName}
 use Rattle.header.specs.Header.{headerOf}
 use Rattle.header.specs.declared.Record.{Record}
 use Rattle.header.specs.declared.CheckedHeader.{CheckedHeader}
@@ -44,7 +45,7 @@ made-table false s es z = absurd (z refl)
 judged-table : (n : ℕ) (k : Bool) (s : List ℕ) (r : Entries) → InTable (judged n k s r)
 unfolding judged
 judged-table n k s broken = bad-table 10 (omega arith) (omega arith)
-judged-table n k s (all es) = go (rising [] es) (quick s n (headOf k) 0 es)
+judged-table n k s (all es) = go (rising entryName [] es) (quick s n (headOf k) 0 es)
   where
     go : (a b : Bool) → InTable (cond a (cond b (made k s es) (bad 11)) (bad 12))
     go true true = made-table k s es

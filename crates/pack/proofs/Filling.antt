@@ -14,7 +14,8 @@ use Rattle.entries.specs.declared.Item.{Item}
 use Rattle.entries.specs.declared.Item.the-variants.{Good}
 use Rattle.chunk.specs.Chunk.{headOf, quickCount}
 use Rattle.source.specs.Source.{itemFrom, endOf, rowsFrom}
-use Rattle.source.proofs.Rows.{onItem, row-of, run-none, run-spent, run-more}
+use Rattle.entries.proofs.Laws.{onItem}
+use Rattle.source.proofs.Rows.{row-of, run-none, run-spent, run-more}
 use Rattle.pack.specs.Groups.{fits, taken}
 use Rattle.pack.specs.Fill.{rowSize, fitOf, extentFrom}
 use Rattle.pack.specs.declared.Extent.{Extent}

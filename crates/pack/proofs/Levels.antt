@@ -20,7 +20,7 @@ use Rattle.entries.specs.declared.Item.the-variants.{Good}
 use Rattle.entries.specs.Stored.{Stored, storedOf}
 use Rattle.source.specs.Source.{childAt, itemFrom, endOf, rowsFrom}
 use Rattle.source.specs.Input.{given}
-use Rattle.source.proofs.All.{All, none, more, all-first, all-weaken, all-parts}
+use Rattle.fields.proofs.Lists.{All, none, more, all-first, all-weaken, all-parts}
 use Rattle.source.proofs.Rows.{Row, run-spent, run-more, run-drop, rows-all}
 use Rattle.pack.specs.Groups.{fits, groups, taken}
 use Rattle.pack.specs.Levels.{entrySize, level, firstName, childrenOf}

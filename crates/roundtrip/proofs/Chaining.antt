@@ -16,12 +16,13 @@ use Rattle.tree.specs.Shape as shape
 use Rattle.tree.specs.Shape.{Shape, isListing, lastName, listingChunk}
 use Rattle.tree.specs.Chain.{chainFrom, chain, linked, chainOk}
 use Rattle.tree.proofs.Chunks.{is-listing}
-use Rattle.entries.specs.Stored.{Stored, rises}
-use Rattle.source.proofs.All.{All, more}
+use Rattle.entries.specs.Rising.{rising}
+use Rattle.entries.specs.Stored.{Stored, storedName}
+use Rattle.fields.proofs.Lists.{All, more}
 use Rattle.pack.specs.Levels.{firstName}
 use Rattle.layout.specs.Layout.{prevOf, nextOf}
 use Rattle.roundtrip.proofs.Numbers.{numbers, in-numbers, all-members}
-use Rattle.roundtrip.proofs.Stand.{asLeaf, Stand, placed-first, placed-last, rises-first}
+use Rattle.roundtrip.proofs.Stand.{asLeaf, Stand, placed-first, placed-last, rising-first}
 
 -- ---- the numbers of the chunks before and behind
 
@@ -44,7 +45,7 @@ prev-is c = let z : eqb (c + 1) 0 ≡ false = ne-eqb (c + 1) 0 (omega arith) in 
 module _ (D : ℕ → Parsed) (H : Shape) (m : ℕ) (room : m ≤ H .count) (small : m ≤ 4096) (end : H .last ≡ m - 1) where
   -- from chunk c on, over n chunks at most
   run : (n p c : ℕ) (last : List ℕ) (g : List Stored) (gs : List (List Stored)) → suc (length gs) ≤ n → c + suc (length gs) ≡ m → prevOf c ≡ p
-      → rises last (flatten (g ∷ gs)) ≡ true → All (λ x. 0 < length x) (g ∷ gs) → Stand D (asLeaf m) c (g ∷ gs)
+      → rising storedName last (flatten (g ∷ gs)) ≡ true → All (λ x. 0 < length x) (g ∷ gs) → Stand D (asLeaf m) c (g ∷ gs)
       → (chainFrom D n c ≡ numbers c (suc (length gs))) × (linked D H n p c ≡ true)
   unfolding chainFrom linked numbers flatten
   run zero p c last g gs f l q r a s = absurd (omega arith)
@@ -58,9 +59,9 @@ module _ (D : ℕ → Parsed) (H : Shape) (m : ℕ) (room : m ≤ H .count) (sma
       let x : shape.nextOf (D c) ≡ c + 1 = ap shape.nextOf (s .0) ∙ next-is m c (omega arith) in
       let v : shape.previousOf (D c) ≡ p = ap shape.previousOf (s .0) ∙ q in
       let z : eqb (c + 1) noChunk ≡ false = ne-eqb (c + 1) noChunk (omega arith) in
-      let t : rises (lastName (D c)) (flatten (h ∷ gs)) ≡ true = rw (s .0) (placed-last true 20 last g (flatten (h ∷ gs)) a r) in
+      let t : rising storedName (lastName (D c)) (flatten (h ∷ gs)) ≡ true = rw (s .0) (placed-last true 20 last g (flatten (h ∷ gs)) a r) in
       let y : shape.firstName (D (c + 1)) ≡ firstName h = rw (s .1 .0) (placed-first true 20 h) in
-      let b′ : below (lastName (D c)) (shape.firstName (D (c + 1))) ≡ true = rw y (rises-first (lastName (D c)) h (flatten gs) b t) in
+      let b′ : below (lastName (D c)) (shape.firstName (D (c + 1))) ≡ true = rw y (rising-first (lastName (D c)) h (flatten gs) b t) in
       let w = run n c (c + 1) (lastName (D c)) h gs (omega arith) (omega arith) (prev-is c) t (more b as′) (s .1) in
       (rw (x, z, w .0), rw (k, v, eq-eqb p p refl, x, z, b′, w .1))
 
@@ -71,7 +72,7 @@ pub record Chained (D : ℕ → Parsed) (H : Shape) (m : ℕ) : Type 0 where
   pub passes : chainOk D H ≡ true
 
 pub chained : (D : ℕ → Parsed) (H : Shape) (gs : List (List Stored)) → length gs ≤ H .count → length gs ≤ 4096 → H .first ≡ 0 → H .last ≡ length gs - 1
-    → 0 < length gs → rises [] (flatten gs) ≡ true → All (λ g. 0 < length g) gs → Stand D (asLeaf (length gs)) 0 gs
+    → 0 < length gs → rising storedName [] (flatten gs) ≡ true → All (λ g. 0 < length g) gs → Stand D (asLeaf (length gs)) 0 gs
     → ((c : ℕ) → c < H .count → isListing (D c) ≡ true → c < length gs) → Chained D H (length gs)
 unfolding chain chainOk
 chained D H [] room small begin end some order full s kinds = absurd (omega arith)

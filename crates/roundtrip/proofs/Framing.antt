@@ -22,7 +22,7 @@ use Rattle.header.specs.declared.CheckedHeader.the-variants.{Good}
 use Rattle.header.proofs.Checks.{header-good}
 use Rattle.book.specs.Book.{chunkBytes}
 use Rattle.entries.specs.Stored.{Stored}
-use Rattle.source.proofs.All.{All}
+use Rattle.fields.proofs.Lists.{All}
 use Rattle.compose.specs.NewChunk.{newChunk}
 use Rattle.layout.specs.Headers.{headLength}
 use Rattle.layout.specs.Layout.{Layout, chunkCount, depthOf, rootOf, smallEnough, prevOf, nextOf, chunkList, headBytes}

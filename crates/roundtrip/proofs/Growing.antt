@@ -18,11 +18,11 @@ use Rattle.tree.specs.Shape as shape
 use Rattle.tree.specs.Lists.{In, allOf}
 use Rattle.tree.specs.Shape.{Shape, isIndex, indexChunk}
 use Rattle.tree.specs.Tree.{leaves, indexChunks, shaped}
-use Rattle.tree.proofs.Lists.{onTest, in-flat, flat-in, flat-append}
+use Rattle.tree.proofs.Lists.{onTest, in-flat, flat-in}
 use Rattle.tree.proofs.Chunks.{is-index}
 use Rattle.tree.proofs.Shaped.{childOk}
 use Rattle.entries.specs.Stored.{Stored}
-use Rattle.source.proofs.All.{All, none, more, all-parts}
+use Rattle.fields.proofs.Lists.{All, none, more, all-parts, flat-append}
 use Rattle.pack.specs.Groups.{fits}
 use Rattle.pack.specs.Levels.{entrySize, firstName, childrenOf, levelsAbove}
 use Rattle.pack.proofs.Groups.{groups-flat, groups-some}

@@ -16,7 +16,7 @@ use Rattle.header.specs.declared.Record.{Record}
 use Rattle.header.specs.declared.CheckedHeader.the-variants.{Good}
 use Rattle.book.specs.Book.{limitsOf, directoryOf}
 use Rattle.entries.specs.Stored.{Stored}
-use Rattle.source.proofs.All.{all-at, All, all-weaken}
+use Rattle.fields.proofs.Lists.{all-at, All, all-weaken}
 use Rattle.source.proofs.Kept.{Kept}
 use Rattle.compose.proofs.Placed.{Allowed}
 use Rattle.compose.proofs.Reading.{parsed-new}

@@ -8,12 +8,11 @@ use native.Mathlib.Omega.{arith}
 use lib.ListN.{length}
 use Rattle.fields.specs.Part.{part}
 use Rattle.fields.proofs.Parts.{length-part}
-use Rattle.entries.specs.Entry.{itemAt}
 use Rattle.entries.specs.declared.Limits.{Limits}
+use Rattle.entries.proofs.Laws.{item-inside}
 use Rattle.chunk.specs.Chunk.{Entry, all, entriesAt}
 use Rattle.chunk.proofs.Accepted.{entries-more, entries-none}
-use Rattle.source.proofs.All.{All, none, more}
-use Rattle.source.proofs.Rows.{given-row}
+use Rattle.fields.proofs.Lists.{All, none, more}
 
 -- the name stands inside the chunk s, where the entry says
 pub record There (s : List ℕ) (e : Entry) : Type 0 where
@@ -21,13 +20,12 @@ pub record There (s : List ℕ) (e : Entry) : Type 0 where
   pub bytes : part s (e .start) (length (e .name)) ≡ e .name
 
 pub names-there : (limits : Limits) (s : List ℕ) (end n at : ℕ) (es : List Entry) → entriesAt limits true s end n at ≡ all es → All (There s) es
-unfolding itemAt
 names-there limits s end zero at es e = subst (All (There s)) (sym (entries-none limits true s end at es e)) none
 names-there limits s end (suc n) at es e =
     let m = entries-more limits true s end n at es e in
     let p = m .0 in
-    let r = given-row (limits .content) s at p (m .2) .row in
-    let l = length-part s (p .start) (p .len) (r .inside) in
+    let r = item-inside limits true s at p (m .2) .name in
+    let l = length-part s (p .start) (p .len) r in
     subst (All (There s)) (sym (m .3))
-    (more (record { inside = omega (arith, r .inside); bytes = ap (λ (k : ℕ). part s (p .start) k) l })
+    (more (record { inside = omega (arith, r); bytes = ap (λ (k : ℕ). part s (p .start) k) l })
     (names-there limits s end n (p .next) (m .1) (m .4)))

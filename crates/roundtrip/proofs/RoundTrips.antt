@@ -24,7 +24,7 @@ use Rattle.opening.specs.declared.Opened.the-variants.{Book}
 use Rattle.listing.specs.Listing.{reportsIn}
 use Rattle.listing.specs.Whole.{wholeListing}
 use Rattle.entries.specs.Stored.{Stored}
-use Rattle.source.proofs.All.{all-at, All, none, more}
+use Rattle.fields.proofs.Lists.{all-at, All, none, more}
 use Rattle.source.proofs.Kept.{Kept}
 use Rattle.pack.specs.Levels.{entrySize}
 use Rattle.compose.proofs.Placed.{placedFrom}

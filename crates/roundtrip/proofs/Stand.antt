@@ -6,12 +6,13 @@ use mathlib.Core.List.{List, [], _∷_, _++_}
 use Prim.Native.Nat.{ℕ, suc, _+_, _<_}
 use native.Mathlib.Omega.{arith}
 use lib.ListN.{length, getD}
-use Rattle.fields.proofs.Tests.{and-both}
 use Rattle.encint.specs.Encint.{encoded}
 use Rattle.names.specs.Names.{below}
 use Rattle.chunk.specs.Chunk.{Entry, Parsed}
 use Rattle.seek.specs.Seek.{Sought, absent, found, nth, nameIn, final}
-use Rattle.entries.specs.Stored.{Stored, rises}
+use Rattle.entries.proofs.Rising.{rising-more}
+use Rattle.entries.specs.Rising.{rising}
+use Rattle.entries.specs.Stored.{Stored, storedName}
 use Rattle.pack.specs.Levels.{entrySize, firstName}
 use Rattle.compose.proofs.Placed.{placedFrom, newParsed}
 use Rattle.layout.specs.Layout.{prevOf, nextOf}
@@ -67,21 +68,21 @@ module _ (k : Bool) where
   placed-first at (e ∷ g) = refl
 
   -- what comes behind a chunk rises from its last name
-  behind-last : (at : ℕ) (s : Sought) (g rest : List Stored) → rises (nameIn s) (g ++ rest) ≡ true → rises (nameIn (final s (placedFrom k at g))) rest ≡ true
-  unfolding placedFrom final rises
+  behind-last : (at : ℕ) (s : Sought) (g rest : List Stored) → rising storedName (nameIn s) (g ++ rest) ≡ true → rising storedName (nameIn (final s (placedFrom k at g))) rest ≡ true
+  unfolding placedFrom final
   behind-last at s [] rest h = h
   behind-last at s (e ∷ g) rest h =
-      behind-last (at + entrySize k e) (found (placed k at e)) g rest (and-both (below (nameIn s) (e .name)) (rises (e .name) (g ++ rest)) h .1)
+      behind-last (at + entrySize k e) (found (placed k at e)) g rest (rising-more storedName (nameIn s) e (g ++ rest) h .1)
 
-  pub placed-last : (at : ℕ) (last : List ℕ) (g rest : List Stored) → 0 < length g → rises last (g ++ rest) ≡ true
-      → rises (nameIn (final absent (placedFrom k at g))) rest ≡ true
-  unfolding placedFrom final rises
+  pub placed-last : (at : ℕ) (last : List ℕ) (g rest : List Stored) → 0 < length g → rising storedName last (g ++ rest) ≡ true
+      → rising storedName (nameIn (final absent (placedFrom k at g))) rest ≡ true
+  unfolding placedFrom final
   placed-last at last [] rest p h = absurd (omega arith)
   placed-last at last (e ∷ g) rest p h =
-      behind-last (at + entrySize k e) (found (placed k at e)) g rest (and-both (below last (e .name)) (rises (e .name) (g ++ rest)) h .1)
+      behind-last (at + entrySize k e) (found (placed k at e)) g rest (rising-more storedName last e (g ++ rest) h .1)
 
 -- entries that rise have the first name above the one before
-pub rises-first : (last : List ℕ) (g rest : List Stored) → 0 < length g → rises last (g ++ rest) ≡ true → below last (firstName g) ≡ true
-unfolding rises firstName
-rises-first last [] rest p h = absurd (omega arith)
-rises-first last (e ∷ g) rest p h = and-both _ _ h .0
+pub rising-first : (last : List ℕ) (g rest : List Stored) → 0 < length g → rising storedName last (g ++ rest) ≡ true → below last (firstName g) ≡ true
+unfolding firstName
+rising-first last [] rest p h = absurd (omega arith)
+rising-first last (e ∷ g) rest p h = rising-more storedName last e (g ++ rest) h .0

@@ -20,25 +20,26 @@ use Rattle.names.specs.declared.Order.the-variants.{Less, Equal, Greater}
 use Rattle.entries.specs.Entry.{nameOf}
 use Rattle.entries.specs.declared.Limits.{Limits}
 use Rattle.entries.specs.declared.Place.{Place}
-use Rattle.chunk.specs.Chunk.{Entry, all, entryOf, entriesAt, rising, headOf, countOf, tailOf, spacingOf, parsed, entriesIn, isKind}
-use Rattle.chunk.proofs.Rising.{rising-more, rising-drop}
+use Rattle.entries.specs.Rising.{rising}
+use Rattle.chunk.specs.Chunk.{Entry, all, entryOf, entriesAt, headOf, countOf, tailOf, spacingOf, parsed, entriesIn, isKind, entryName}
+use Rattle.entries.proofs.Rising.{rising-more, rising-take, rising-drop}
 use Rattle.chunk.proofs.Accepted.{Accepted, accepted, entries-more, entries-count}
 use Rattle.seek.specs.Seek.{byOrder, absent, found, lookup, choice, nth, final, soughtOf, findAt, chooseAt, afterAt, groupAt, groupIn, sizeIn, nthIn, findIn, chooseIn, lastIn}
-use Rattle.seek.proofs.Behind.{rising-take, lookup-behind, choice-behind}
+use Rattle.seek.proofs.Behind.{lookup-behind, choice-behind}
 use Rattle.seek.proofs.Groups.{group-entries, last-inside, group-right, group-lookup, group-choice}
 use Rattle.seek.specs.declared.Hit.{Hit}
 use Rattle.seek.specs.declared.Hit.the-variants.{At, Nothing}
 
 -- ---- the entry of a name
 
-find-here : (s name : List ℕ) (p : Place) (h : Hit) (es : List Entry) (o : Order) → compared name (nameOf s p) ≡ o → rising (nameOf s p) es ≡ true
+find-here : (s name : List ℕ) (p : Place) (h : Hit) (es : List Entry) (o : Order) → compared name (nameOf s p) ≡ o → rising entryName (nameOf s p) es ≡ true
     → soughtOf s h ≡ lookup name es → soughtOf s (byOrder o Nothing (At p) h) ≡ cond (isEqual o) (found (entryOf s p)) (lookup name es)
 find-here s name p h es Less q r e = sym (lookup-behind name (nameOf s p) es (ap notGreater q) r)
 find-here s name p h es Equal q r e = refl
 find-here s name p h es Greater q r e = e
 
 -- among the first m of n entries
-find-all : (limits : Limits) (s name : List ℕ) (end n m at : ℕ) (x : List ℕ) (es : List Entry) → m ≤ n → entriesAt limits true s end n at ≡ all es → rising x es ≡ true
+find-all : (limits : Limits) (s name : List ℕ) (end n m at : ℕ) (x : List ℕ) (es : List Entry) → m ≤ n → entriesAt limits true s end n at ≡ all es → rising entryName x es ≡ true
     → soughtOf s (findAt limits s (compared name) m at) ≡ lookup name (take m es)
 unfolding findAt lookup matches
 find-all limits s name end n zero at x es l e r = refl
@@ -46,22 +47,22 @@ find-all limits s name end zero (suc m) at x es l e r = absurd (omega arith)
 find-all limits s name end (suc n) (suc m) at x es l e r =
     let t = entries-more limits true s end n at es e in
     let p = t .0 in
-    let q = rising-more x (entryOf s p) (t .1) (subst (λ (l : List Entry). rising x l ≡ true) (t .3) r) in
+    let q = rising-more entryName x (entryOf s p) (t .1) (subst (λ (l : List Entry). rising entryName x l ≡ true) (t .3) r) in
     let i = find-all limits s name end n m (p .next) (nameOf s p) (t .1) (omega arith) (t .4) (q .1) in
     let here : soughtOf s (findAt limits s (compared name) (suc m) at) ≡ lookup name (take (suc m) (entryOf s p ∷ t .1)) =
-    rw (t .2) (find-here s name p (findAt limits s (compared name) m (p .next)) (take m (t .1)) (compared name (nameOf s p)) refl (rising-take m (nameOf s p) (t .1) (q .1)) i) in
+    rw (t .2) (find-here s name p (findAt limits s (compared name) m (p .next)) (take m (t .1)) (compared name (nameOf s p)) refl (rising-take entryName m (nameOf s p) (t .1) (q .1)) i) in
     here ∙ ap (λ (l : List Entry). lookup name (take (suc m) l)) (sym (t .3))
 
 -- ---- the entry to go down from
 
-choose-here : (s name : List ℕ) (p : Place) (best h : Hit) (es : List Entry) (o : Order) → compared name (nameOf s p) ≡ o → rising (nameOf s p) es ≡ true
+choose-here : (s name : List ℕ) (p : Place) (best h : Hit) (es : List Entry) (o : Order) → compared name (nameOf s p) ≡ o → rising entryName (nameOf s p) es ≡ true
     → soughtOf s h ≡ choice name (found (entryOf s p)) es
     → soughtOf s (byOrder o best (At p) h) ≡ choice name (cond (isLess o) (soughtOf s best) (found (entryOf s p))) es
 choose-here s name p best h es Less q r e = sym (choice-behind name (nameOf s p) es (soughtOf s best) (ap notGreater q) r)
 choose-here s name p best h es Equal q r e = sym (choice-behind name (nameOf s p) es (found (entryOf s p)) (ap notGreater q) r)
 choose-here s name p best h es Greater q r e = e
 
-choose-all : (limits : Limits) (s name : List ℕ) (end n m at : ℕ) (x : List ℕ) (best : Hit) (es : List Entry) → m ≤ n → entriesAt limits false s end n at ≡ all es → rising x es ≡ true
+choose-all : (limits : Limits) (s name : List ℕ) (end n m at : ℕ) (x : List ℕ) (best : Hit) (es : List Entry) → m ≤ n → entriesAt limits false s end n at ≡ all es → rising entryName x es ≡ true
     → soughtOf s (chooseAt limits s (compared name) best m at) ≡ choice name (soughtOf s best) (take m es)
 unfolding chooseAt choice below
 choose-all limits s name end n zero at x best es l e r = refl
@@ -69,10 +70,10 @@ choose-all limits s name end zero (suc m) at x best es l e r = absurd (omega ari
 choose-all limits s name end (suc n) (suc m) at x best es l e r =
     let t = entries-more limits false s end n at es e in
     let p = t .0 in
-    let q = rising-more x (entryOf s p) (t .1) (subst (λ (l : List Entry). rising x l ≡ true) (t .3) r) in
+    let q = rising-more entryName x (entryOf s p) (t .1) (subst (λ (l : List Entry). rising entryName x l ≡ true) (t .3) r) in
     let i = choose-all limits s name end n m (p .next) (nameOf s p) (At p) (t .1) (omega arith) (t .4) (q .1) in
     let here : soughtOf s (chooseAt limits s (compared name) best (suc m) at) ≡ choice name (soughtOf s best) (take (suc m) (entryOf s p ∷ t .1)) =
-    rw (t .2) (choose-here s name p best (chooseAt limits s (compared name) (At p) m (p .next)) (take m (t .1)) (compared name (nameOf s p)) refl (rising-take m (nameOf s p) (t .1) (q .1)) i) in
+    rw (t .2) (choose-here s name p best (chooseAt limits s (compared name) (At p) m (p .next)) (take m (t .1)) (compared name (nameOf s p)) refl (rising-take entryName m (nameOf s p) (t .1) (q .1)) i) in
     here ∙ ap (λ (l : List Entry). choice name (soughtOf s best) (take (suc m) l)) (sym (t .3))
 
 -- ---- entry i
@@ -149,9 +150,9 @@ module _ (limits : Limits) (s : List ℕ) where
       let a = accepted limits true s h in
       let g = groupIn limits true s (compared name) in
       let r = group-right limits true s es a (compared name) in
-      let b = rising-drop (g * spacingOf (limits .density)) [] es (a .rises) in
-      find-all limits s name (4096 - tailOf s) (countOf s - g * spacingOf (limits .density)) (sizeIn limits s g) (groupAt true s g) (b .0) (drop (g * spacingOf (limits .density)) es) (omega arith)
-      (group-entries limits true s es a g (last-inside limits true s es a g (r .0))) (b .1)
+      let b = rising-drop entryName (g * spacingOf (limits .density)) [] es (a .rises) in
+      find-all limits s name (4096 - tailOf s) (countOf s - g * spacingOf (limits .density)) (sizeIn limits s g) (groupAt true s g) [] (drop (g * spacingOf (limits .density)) es) (omega arith)
+      (group-entries limits true s es a g (last-inside limits true s es a g (r .0))) b
       ∙ sym (group-lookup limits true s es a name g r)
 
   pub choose-good : (name : List ℕ) → isKind false (parsed limits s) ≡ true → soughtOf s (chooseIn limits s (compared name)) ≡ choice name absent (entriesIn (parsed limits s))
@@ -160,9 +161,9 @@ module _ (limits : Limits) (s : List ℕ) where
       let a = accepted limits false s h in
       let g = groupIn limits false s (compared name) in
       let r = group-right limits false s es a (compared name) in
-      let b = rising-drop (g * spacingOf (limits .density)) [] es (a .rises) in
-      choose-all limits s name (4096 - tailOf s) (countOf s - g * spacingOf (limits .density)) (sizeIn limits s g) (groupAt false s g) (b .0) Nothing (drop (g * spacingOf (limits .density)) es) (omega arith)
-      (group-entries limits false s es a g (last-inside limits false s es a g (r .0))) (b .1)
+      let b = rising-drop entryName (g * spacingOf (limits .density)) [] es (a .rises) in
+      choose-all limits s name (4096 - tailOf s) (countOf s - g * spacingOf (limits .density)) (sizeIn limits s g) (groupAt false s g) [] Nothing (drop (g * spacingOf (limits .density)) es) (omega arith)
+      (group-entries limits false s es a g (last-inside limits false s es a g (r .0))) b
       ∙ sym (group-choice limits false s es a name g r)
 
   pub nth-good : (k : Bool) (i : ℕ) → isKind k (parsed limits s) ≡ true → soughtOf s (nthIn limits k s i) ≡ nth i (entriesIn (parsed limits s))

@@ -22,10 +22,10 @@ use Rattle.names.specs.Names.{compared}
 use Rattle.entries.specs.Entry.{nameOf}
 use Rattle.entries.specs.declared.Limits.{Limits}
 use Rattle.entries.proofs.Laws.{item-inside}
-use Rattle.chunk.specs.Chunk.{Entry, all, entriesAt, headOf, countOf, tailOf, spacingOf, quickCount}
+use Rattle.chunk.specs.Chunk.{Entry, all, entriesAt, headOf, countOf, tailOf, spacingOf, quickCount, entryName}
 use Rattle.chunk.proofs.Accepted.{Accepted, entries-more, entries-count}
 use Rattle.chunk.proofs.Quick.{word}
-use Rattle.chunk.proofs.Rising.{rising-drop}
+use Rattle.entries.proofs.Rising.{rising-drop}
 use Rattle.seek.specs.Seek.{Stand, absent, lookup, choice, nth, nameIn, halved, groupAt, groupAbove, lastGroup, groupIn, sizeIn}
 use Rattle.seek.specs.Count.{halvings, aboveIn, groupOf, halvingsIn}
 use Rattle.seek.proofs.Halving.{Lower, Upper, halved-one, halvings-one, halved-right, halved-same, halvings-same}
@@ -197,14 +197,14 @@ module _ (limits : Limits) (k : Bool) (s : List ℕ) (es : List Entry) (good : A
         go (inr a) = elim (decLt g last) [ yes l ↦ ends-before l a | no l ↦ ends-last (omega (arith, right .0)) ]
 
     pub group-lookup : lookup name es ≡ lookup name (take (sizeIn limits s g) (drop (g * n) es))
-    group-lookup = go (right .1) ∙ lookup-until name (sizeIn limits s g) (rising-drop (g * n) [] es (good .rises) .0) (drop (g * n) es) (rising-drop (g * n) [] es (good .rises) .1) ends
+    group-lookup = go (right .1) ∙ lookup-until name (sizeIn limits s g) [] (drop (g * n) es) (rising-drop entryName (g * n) [] es (good .rises)) ends
       where
         go : Lower (aboveIn n (compared name) es) g → lookup name es ≡ lookup name (drop (g * n) es)
         go (inl z) = let y : 0 ≡ g * n = omega (arith, ap (λ (x : ℕ). x * n) z) in ap (λ (i : ℕ). lookup name (drop i es)) y
         go (inr b) = lookup-from name (g * n) [] es (good .rises) inside (sym (first-is g) ∙ b)
 
     pub group-choice : choice name absent es ≡ choice name absent (take (sizeIn limits s g) (drop (g * n) es))
-    group-choice = go (right .1) ∙ choice-until name (sizeIn limits s g) (rising-drop (g * n) [] es (good .rises) .0) (drop (g * n) es) absent (rising-drop (g * n) [] es (good .rises) .1) ends
+    group-choice = go (right .1) ∙ choice-until name (sizeIn limits s g) [] (drop (g * n) es) absent (rising-drop entryName (g * n) [] es (good .rises)) ends
       where
         go : Lower (aboveIn n (compared name) es) g → choice name absent es ≡ choice name absent (drop (g * n) es)
         go (inl z) = let y : 0 ≡ g * n = omega (arith, ap (λ (x : ℕ). x * n) z) in ap (λ (i : ℕ). choice name absent (drop i es)) y

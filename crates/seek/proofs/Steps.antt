@@ -3,10 +3,12 @@
 use mathlib.Core.Path.{_≡_, refl, sym, ap, _∙_}
 use mathlib.Core.List.{List}
 use mathlib.Core.Bool.{Bool, true, false}
-use Prim.Native.Nat.{ℕ, zero, suc, _+_, _-_, _≤_, _<_}
+use Prim.Native.Nat.{ℕ, zero, suc, _+_, _-_, _/_, _%_, _≤_, _<_}
 use native.Mathlib.Omega.{arith}
 use native.Mathlib.Decide.{decLe}
 use lib.ListN.{length}
+use lib.Dec.{ltb}
+use borrow.Author.Tests.{ltb-true}
 use Rattle.names.specs.declared.Order.{Order}
 use Rattle.names.specs.declared.Order.the-variants.{Less, Equal, Greater}
 use Rattle.fields.proofs.Le.{le-past}
@@ -18,9 +20,9 @@ use Rattle.entries.specs.declared.Limits.{Limits}
 use Rattle.entries.specs.declared.Place.{Place}
 use Rattle.entries.specs.declared.Item.{Item}
 use Rattle.entries.specs.declared.Item.the-variants.{Good, Bad}
-use Rattle.entries.proofs.Laws.{item-inside, item-named, item-unnamed}
-use Rattle.chunk.specs.Chunk.{countOf}
-use Rattle.seek.specs.Seek.{Stand, byOrder, findAt, chooseAt, childOf, afterAt}
+use Rattle.entries.proofs.Laws.{onItem, test-passed, item-inside, item-named, item-unnamed}
+use Rattle.chunk.specs.Chunk.{countOf, spacingOf}
+use Rattle.seek.specs.Seek.{Stand, byOrder, findAt, chooseAt, childOf, afterAt, groupAt, nthIn}
 use Rattle.seek.specs.Count.{comparedAt, walked}
 use Rattle.seek.specs.declared.CountedHit.{CountedHit}
 use Rattle.seek.specs.declared.Child.the-variants.{Below}
@@ -184,3 +186,27 @@ find-inside limits s stand e n at q =
     let r = find-read limits s stand e n at q in
     let i = item-inside limits true s (r .0) e (r .1 .0) in
     (i .name, i .some)
+
+-- ---- so is entry i
+
+hit-item : (i : Item) (e : Place) → withItem i Nothing (λ p. At p) ≡ At e → i ≡ Good e
+hit-item Bad e h = absurd (let z : _≡_ {A = ℕ} 0 1 = cc in omega arith)
+hit-item (Good p) e h = ap Good (let z : p ≡ e = cc in z)
+
+after-read : (limits : Limits) (k : Bool) (s : List ℕ) (j at : ℕ) (e : Place) → afterAt limits k s j at ≡ At e
+    → (p : ℕ) × (itemAt limits k s p ≡ Good e)
+unfolding afterAt
+after-read limits k s zero at e h = (at, hit-item (itemAt limits k s at) e h)
+after-read limits k s (suc j) at e h =
+    onItem (itemAt limits k s at)
+    (λ g. absurd (let d : Nothing ≡ At e = rw g at h in let z : _≡_ {A = ℕ} 0 1 = cc in omega arith))
+    (λ p g. after-read limits k s j (p .next) e (rw g at h))
+
+pub nth-read : (limits : Limits) (k : Bool) (s : List ℕ) (i : ℕ) (e : Place) → nthIn limits k s i ≡ At e
+    → (i < countOf s) × (p : ℕ) × (itemAt limits k s p ≡ Good e)
+unfolding nthIn
+nth-read limits k s i e h =
+    let n : ℕ = spacingOf (limits .density) in
+    let t = test-passed (ltb i (countOf s)) (afterAt limits k s (i % n) (groupAt k s (i / n))) Nothing (At e) (λ d. let z : _≡_ {A = ℕ} 0 1 = cc in omega arith) h in
+    let r = after-read limits k s (i % n) (groupAt k s (i / n)) e (t .1) in
+    (ltb-true i (countOf s) (t .0), r .0, r .1)

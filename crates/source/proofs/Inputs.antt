@@ -14,14 +14,15 @@ use Rattle.names.specs.Names.{below}
 use Rattle.entries.specs.Entry.{listingAt, nameOf}
 use Rattle.entries.specs.declared.Place.{Place}
 use Rattle.entries.specs.declared.Item.the-variants.{Good}
-use Rattle.entries.specs.Stored.{storedOf, unpadded, rises}
+use Rattle.entries.specs.Rising.{rising}
+use Rattle.entries.specs.Stored.{storedOf, unpadded, storedName}
 use Rattle.source.specs.Source.{run, endOf}
 use Rattle.source.specs.Input.{given, inputRight, allUnpadded}
 use Rattle.source.proofs.Rows.{run-more}
 
 -- the entries that are left end where the input does, none is padded, and their names rise
 abbrev pub passes : List ℕ → ℕ → List ℕ → List Place → Bool
-passes s at last es = eqb (endOf at es) (length s) && (allUnpadded s es && rises last (map (storedOf s) es))
+passes s at last es = eqb (endOf at es) (length s) && (allUnpadded s es && rising storedName last (map (storedOf s) es))
 
 -- the tests of an entry in front of those of the entries behind it
 entry-first : (end u us r rs : Bool) → (end && ((u && us) && (r && rs))) ≡ (u && (r && (end && (us && rs))))
@@ -54,13 +55,13 @@ module _ (content : ℕ) (s : List ℕ) where
 
   -- no entry is left
   pub passes-end : (left at : ℕ) (last : List ℕ) → ahead left at ≡ [] → passes s at last (ahead left at) ≡ eqb at (length s)
-  unfolding endOf allUnpadded rises
+  unfolding endOf allUnpadded rising
   passes-end left at last q = rw q (and-yes (eqb at (length s)))
 
   pub passes-more : (left at : ℕ) (last : List ℕ) (e : Place) → 0 < left → listingAt content s at ≡ Good e
       → passes s at last (ahead left at) ≡ (unpadded s e && (below last (nameOf s e) && passes s (e .next) (nameOf s e) (ahead (left - 1) (e .next))))
-  unfolding endOf allUnpadded rises
+  unfolding endOf allUnpadded rising
   passes-more left at last e h q =
       rw (run-more (listingAt content s) left at e h q)
       (entry-first (eqb (endOf (e .next) (ahead (left - 1) (e .next))) (length s)) (unpadded s e) (allUnpadded s (ahead (left - 1) (e .next))) (below last (nameOf s e))
-      (rises (nameOf s e) (map (storedOf s) (ahead (left - 1) (e .next)))))
+      (rising storedName (nameOf s e) (map (storedOf s) (ahead (left - 1) (e .next)))))

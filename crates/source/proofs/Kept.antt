@@ -8,13 +8,15 @@ use native.Mathlib.Omega.{arith}
 use lib.ListN.{length}
 use lib.Dec.{ltb, leb}
 use Rattle.fields.proofs.Parts.{length-part}
+use Rattle.encint.proofs.Reading.{encint-small}
 use Rattle.entries.specs.Entry.{listingAt}
 use Rattle.entries.specs.declared.Place.{Place}
 use Rattle.entries.specs.declared.Item.the-variants.{Good}
+use Rattle.entries.proofs.Laws.{name-next, listing-apart}
 use Rattle.entries.specs.Stored.{Stored, storedOf}
 use Rattle.source.specs.Input.{given}
-use Rattle.source.proofs.All.{All, all-map}
-use Rattle.source.proofs.Rows.{given-row, run-all}
+use Rattle.fields.proofs.Lists.{All, all-map}
+use Rattle.source.proofs.Rows.{run-all}
 
 pub record Kept (content : ℕ) (e : Stored) : Type 0 where
   pub some : 0 < length (e .name)
@@ -28,16 +30,17 @@ pub record Kept (content : ℕ) (e : Stored) : Type 0 where
 module _ (content : ℕ) (s : List ℕ) where
   kept-one : (at : ℕ) (e : Place) → listingAt content s at ≡ Good e → Kept content (storedOf s e)
   kept-one at e q =
-      let g = given-row content s at e q in
-      let l = length-part s (e .start) (e .len) (g .row .inside) in
+      let a = listing-apart content s at e q in
+      let n = name-next s at (e .len) (e .start) (a .name) in
+      let l = length-part s (e .start) (e .len) (n .2) in
       record {
-        some = omega (arith, g .row .some);
-        short = omega (arith, g .row .short);
-        section = g .section;
-        offset = g .offset;
-        size = g .size;
-        within = g .within;
-        childless = g .childless;
+        some = omega (arith, n .0);
+        short = omega (arith, n .1);
+        section = a .numbered;
+        offset = encint-small s (a .p₁) (a .offset);
+        size = encint-small s (a .p₂) (a .size);
+        within = a .within;
+        childless = a .childless;
       }
 
   pub given-kept : All (Kept content) (given content s)

@@ -1,4 +1,3 @@
-pub mod All
 pub mod Rows
 pub mod Inputs
 pub mod Kept

@@ -1,38 +1,22 @@
--- What is known of an entry that a step hands out (`row`), and the entries from a cursor on, one by one (`run-more`, `run-end`).
+-- What is known of an entry that a step hands out (`row-of`), and the entries from a cursor on, one by one (`run-more`, `run-end`).
 -- Assumes nothing.
 use mathlib.Core.Path.{_≡_, refl, sym, subst}
 use mathlib.Core.List.{List, [], _∷_}
-use mathlib.Core.Bool.{Bool, true, false, cond, _||_}
-use Prim.Native.Nat.{ℕ, zero, suc, _+_, _-_, _^_, _≤_, _<_}
+use mathlib.Core.Bool.{Bool, true, false}
+use Prim.Native.Nat.{ℕ, zero, suc, _+_, _-_, _≤_, _<_}
 use native.Mathlib.Omega.{arith}
-use borrow.Author.Tests.{ltb-true, leb-true}
 use lib.ListN.{length, getD, take, drop}
-use lib.Dec.{ltb, leb}
-use Rattle.encint.specs.declared.Number.{Number}
+use lib.Dec.{ltb}
 use Rattle.encint.specs.declared.Number.the-variants.{Value}
-use Rattle.encint.proofs.Reading.{encint-small}
-use Rattle.entries.specs.Entry.{nameAt, withNumber, listingAt}
+use Rattle.entries.specs.Entry.{nameAt}
 use Rattle.entries.specs.declared.Place.{Place}
 use Rattle.entries.specs.declared.Item.{Item}
 use Rattle.entries.specs.declared.Item.the-variants.{Good, Bad}
-use Rattle.entries.proofs.Laws.{name-next, listing-apart, listing-inside}
+use Rattle.entries.proofs.Laws.{bad-no-good, onItem, number-passed, test-passed, item-passed, name-next, listing-inside}
 use Rattle.source.specs.Source.{childAt, itemFrom, takenOf, run, endOf, rowsFrom}
-use Rattle.source.proofs.All.{All, none, more}
-
-bad-no-good : {X : Type 0} {e : Place} → Bad ≡ Good e → X
-bad-no-good q = absurd (let z : _≡_ {A = ℕ} 0 1 = cc in omega arith)
+use Rattle.fields.proofs.Lists.{All, none, more}
 
 -- ---- what an entry is known to be
-
--- a number was there where an entry was made of it
-number-there : (r : Number) (f : ℕ → ℕ → Item) {e : Place} → withNumber r Bad f ≡ Good e → (v : ℕ) × (p : ℕ) × (r ≡ Value v p) × (f v p ≡ Good e)
-number-there Number.Bad f q = bad-no-good q
-number-there (Value v p) f q = (v, p, refl, q)
-
--- and a test was passed
-test-passed : (t : Bool) (x : Place) {e : Place} → cond t (Good x) Bad ≡ Good e → (t ≡ true) × (x ≡ e)
-test-passed true x q = (refl, (cc))
-test-passed false x q = bad-no-good q
 
 -- an entry of either kind: its name, read at its place in the input s
 pub record Row (s : List ℕ) (e : Place) : Type 0 where
@@ -46,69 +30,18 @@ named-row s e h =
     let n = name-next s (e .at) (e .len) (e .start) h in
     record { named = h; some = n .0; short = n .1; inside = n .2 }
 
--- of the input (FORMAT E3 to E6)
-pub record Given (content : ℕ) (s : List ℕ) (at : ℕ) (e : Place) : Type 0 where
-  pub row : Row s e
-  pub here : e .at ≡ at
-  pub moves : e .at < e .next
-  pub section : e .section ≤ 65535
-  pub offset : e .offset < 2 ^ 63
-  pub size : e .size < 2 ^ 63
-  pub within : (ltb 0 (e .section) || leb (e .offset + e .size) content) ≡ true
-  pub childless : e .child ≡ 0
-
-pub given-row : (content : ℕ) (s : List ℕ) (at : ℕ) (e : Place) → listingAt content s at ≡ Good e → Given content s at e
-given-row content s at e q =
-    let a = listing-apart content s at e q in
-    record {
-      row = named-row s e (rw (← a .same) at (a .name));
-      here = a .same;
-      moves = omega (arith, a .same, listing-inside content s at e q .moves);
-      section = leb-true (e .section) 65535 (a .numbered);
-      offset = encint-small s (a .p₁) (a .offset);
-      size = encint-small s (a .p₂) (a .size);
-      within = a .within;
-      childless = a .childless;
-    }
-
--- of a chunk
-pub record Child (s starts : List ℕ) (c : ℕ) (e : Place) : Type 0 where
-  pub row : Row s e
-  pub here : e .at ≡ getD starts c 0
-  pub next : e .next ≡ c + 1
-  pub below : c < length starts
-  pub child : e .child ≡ c
-  pub section : e .section ≡ 0
-  pub offset : e .offset ≡ 0
-  pub size : e .size ≡ 0
-
-chunk-there : (t : Bool) (i : Item) {e : Place} → cond t i Bad ≡ Good e → (t ≡ true) × (i ≡ Good e)
-chunk-there true i q = (refl, q)
-chunk-there false i q = bad-no-good q
-
-pub child-row : (s starts : List ℕ) (c : ℕ) (e : Place) → childAt s starts c ≡ Good e → Child s starts c e
+child-row : (s starts : List ℕ) (c : ℕ) (e : Place) → childAt s starts c ≡ Good e → Row s e
 unfolding childAt
 child-row s starts c e q =
-    let t = chunk-there (ltb c (length starts)) _ q in
-    let n = number-there _ _ (t .1) in
+    let t = test-passed (ltb c (length starts)) _ Bad (Good e) bad-no-good q in
+    let n = number-passed _ _ _ _ bad-no-good (t .1) in
     let x : Place = record { at = getD starts c 0; start = n .1; len = n .0; section = 0; offset = 0; size = 0; child = c; next = c + 1 } in
-    let same : x ≡ e = test-passed true x (n .3) .1 in
-    subst (Child s starts c) same
-    (record {
-      row = named-row s x (n .2);
-      here = refl;
-      next = refl;
-      below = ltb-true c (length starts) (t .0);
-      child = refl;
-      section = refl;
-      offset = refl;
-      size = refl;
-    })
+    subst (Row s) (item-passed true x e (n .3) .1) (named-row s x (n .2))
 
 pub row-of : (content : ℕ) (s starts : List ℕ) (k : Bool) (at : ℕ) (e : Place) → itemFrom content s starts k at ≡ Good e → Row s e
 unfolding itemFrom
-row-of content s starts true at e q = given-row content s at e q .row
-row-of content s starts false at e q = child-row s starts at e q .row
+row-of content s starts true at e q = let i = listing-inside content s at e q in named-row s e (rw (← i .same) at (i .read))
+row-of content s starts false at e q = child-row s starts at e q
 
 -- ---- a step, where `left` more may be taken
 
@@ -132,10 +65,6 @@ taken-entry zero i e q = bad-no-good q
 taken-entry (suc left) i e q = record { some = omega arith; item = q }
 
 -- ---- the entries from a cursor on
-
-pub onItem : {P : Type 0} (i : Item) → (i ≡ Bad → P) → ((e : Place) → i ≡ Good e → P) → P
-onItem Bad f g = f refl
-onItem (Good e) f g = g e refl
 
 module _ (item : ℕ → Item) where
   pub run-none : (left at : ℕ) → item at ≡ Bad → run item left at ≡ []

@@ -10,11 +10,12 @@ use lib.ListN.{length, getD, drop, drop-of-length-le}
 use borrow.Author.Tests.{eqb-true}
 use Rattle.fields.proofs.Tests.{and-both}
 use Rattle.entries.specs.Entry.{listingAt}
+use Rattle.entries.proofs.Laws.{onItem}
 use Rattle.entries.proofs.Padded.{entry-ahead}
-use Rattle.entries.specs.Stored.{storedOf, entryBytes, unpadded, rises}
+use Rattle.entries.specs.Rising.{rising}
+use Rattle.entries.specs.Stored.{storedOf, entryBytes, unpadded, storedName}
 use Rattle.source.specs.Source.{run, endOf}
 use Rattle.source.specs.Input.{placesOf, given, inputRight, allUnpadded}
-use Rattle.source.proofs.Rows.{onItem}
 
 module _ (s : List ℕ) (bytes : (i : ℕ) → getD s i 0 < 256) (content : ℕ) where
   none-behind : (at : ℕ) → at ≡ length s → drop at s ≡ []
@@ -40,7 +41,7 @@ module _ (s : List ℕ) (bytes : (i : ℕ) → getD s i 0 < 256) (content : ℕ)
   unfolding inputRight given
   input-bytes h =
       let es = placesOf content s in
-      let a = and-both (ltb 0 (length es)) (eqb (endOf 0 es) (length s) && (allUnpadded s es && rises [] (given content s))) h in
-      let b = and-both (eqb (endOf 0 es) (length s)) (allUnpadded s es && rises [] (given content s)) (a .1) in
-      let c = and-both (allUnpadded s es) (rises [] (given content s)) (b .1) in
+      let a = and-both (ltb 0 (length es)) (eqb (endOf 0 es) (length s) && (allUnpadded s es && rising storedName [] (given content s))) h in
+      let b = and-both (eqb (endOf 0 es) (length s)) (allUnpadded s es && rising storedName [] (given content s)) (a .1) in
+      let c = and-both (allUnpadded s es) (rising storedName [] (given content s)) (b .1) in
       run-bytes (length s) 0 (eqb-true (endOf 0 es) (length s) (b .0)) (c .0)

@@ -7,7 +7,8 @@ use lib.ListN.{length}
 use lib.Dec.{ltb, eqb}
 use Rattle.entries.specs.Entry.{listingAt}
 use Rattle.entries.specs.declared.Place.{Place}
-use Rattle.entries.specs.Stored.{Stored, storedOf, unpadded, rises}
+use Rattle.entries.specs.Rising.{rising}
+use Rattle.entries.specs.Stored.{Stored, storedOf, unpadded, storedName}
 use Rattle.source.specs.Source.{run, endOf}
 
 -- where they stand: one directly behind another, as far as they are whole and good by E3 to E6
@@ -26,4 +27,4 @@ allUnpadded s (e ∷ es) = unpadded s e && allUnpadded s es
 -- one or more; the last ends where the input does; every number is in its short form; their names rise strictly
 unfoldable pub inputRight : ℕ → List ℕ → Bool
 inputRight content s =
-    ltb 0 (length (placesOf content s)) && (eqb (endOf 0 (placesOf content s)) (length s) && (allUnpadded s (placesOf content s) && rises [] (given content s)))
+    ltb 0 (length (placesOf content s)) && (eqb (endOf 0 (placesOf content s)) (length s) && (allUnpadded s (placesOf content s) && rising storedName [] (given content s)))

@@ -10,7 +10,8 @@ use Rattle.fields.specs.Same.{same}
 use Rattle.refusals.specs.Refusals.{noChunk}
 use Rattle.names.specs.Order.{byNumber, byElement}
 use Rattle.names.specs.Names.{folded, compared, below, matches}
-use Rattle.chunk.specs.Chunk.{Entry, Parsed, bad, listing, index, rising, entriesIn}
+use Rattle.entries.specs.Rising.{rising}
+use Rattle.chunk.specs.Chunk.{Entry, Parsed, bad, listing, index, entriesIn, entryName}
 use Rattle.seek.specs.Seek.{lookup, choice, nth, final}
 use Rattle.tree.specs.Shape.{Shape, isListing, isIndex, listingChunk, indexChunk, GoodChunks}
 use Rattle.tree.specs.Chain.{chainFrom, chain, linked, chainOk}
@@ -89,7 +90,7 @@ good-chunks = record { good = kinds; some = entries; rises = orders }
     entries (suc (suc zero)) l = omega arith
     entries (suc (suc (suc c))) l = absurd (omega arith)
 
-    orders : (c : ℕ) → c < 3 → rising [] (entriesIn (of good c)) ≡ true
+    orders : (c : ℕ) → c < 3 → rising entryName [] (entriesIn (of good c)) ≡ true
     orders zero l = refl
     orders (suc zero) l = refl
     orders (suc (suc zero)) l = refl

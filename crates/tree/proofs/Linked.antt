@@ -14,7 +14,8 @@ use Rattle.fields.proofs.Tests.{never, and-both}
 use Rattle.refusals.specs.Refusals.{noChunk}
 use Rattle.names.specs.Names.{below}
 use Rattle.names.proofs.Laws.{below-self}
-use Rattle.chunk.specs.Chunk.{Entry, Parsed, rising, entriesIn}
+use Rattle.entries.specs.Rising.{rising}
+use Rattle.chunk.specs.Chunk.{Entry, Parsed, entriesIn, entryName}
 use Rattle.seek.specs.Seek.{nth}
 use Rattle.tree.specs.Lists.{In, Each, Distinct, member, everyBelow}
 use Rattle.tree.specs.Shape.{Shape, isListing, previousOf, nextOf, firstName, lastName, listingChunk, GoodChunks}
@@ -103,7 +104,7 @@ module _ (D : ℕ → Parsed) (H : Shape) where
 
   -- what is asked of listing chunks: each has an entry, and its names rise
   abbrev pub Filled : Type 0
-  Filled = (c : ℕ) → c < H .count → isListing (D c) ≡ true → (0 < length (entriesIn (D c))) × (rising [] (entriesIn (D c)) ≡ true)
+  Filled = (c : ℕ) → c < H .count → isListing (D c) ≡ true → (0 < length (entriesIn (D c))) × (rising entryName [] (entriesIn (D c)) ≡ true)
 
   pub good-filled : GoodChunks D H → Filled
   good-filled good c l k = (good .some c l, good .rises c l)
@@ -117,12 +118,12 @@ module _ (D : ℕ → Parsed) (H : Shape) where
     unfolding nth
     first-name c es k = let f = first-entry c k in rw (f .2)
 
-    chunk-then : (c : ℕ) (es : List Entry) → (c < H .count) × (isListing (D c) ≡ true) → rising (lastName (D c)) es ≡ true → rising [] (entriesIn (D c) ++ es) ≡ true
+    chunk-then : (c : ℕ) (es : List Entry) → (c < H .count) × (isListing (D c) ≡ true) → rising entryName (lastName (D c)) es ≡ true → rising entryName [] (entriesIn (D c) ++ es) ≡ true
     chunk-then c es k h =
         let f = first-entry c k in
         rw (f .2) (rising-append [] (f .0) (f .1) es (rw (f .2) at (filled c (k .0) (k .1) .1)) (rw (f .2) at h))
 
-    pub chain-rising : (n p c : ℕ) → linked D H n p c ≡ true → rising [] (entriesOf D (chainFrom D n c)) ≡ true
+    pub chain-rising : (n p c : ℕ) → linked D H n p c ≡ true → rising entryName [] (entriesOf D (chainFrom D n c)) ≡ true
     unfolding chainFrom flatMap rising
     chain-rising zero p c h = refl
     chain-rising (suc n) p c h =

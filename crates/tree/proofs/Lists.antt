@@ -3,13 +3,14 @@
 use mathlib.Core.Path.{_≡_, refl, sym, ap, _∙_}
 use mathlib.Core.Logic.{_⊎_, inl, inr, ⊎-elim}
 use mathlib.Core.Bool.{Bool, true, false, not, _||_}
-use mathlib.Core.List.{List, [], _∷_, _++_, append-assoc, map, flatMap}
+use mathlib.Core.List.{List, [], _∷_, _++_, map, flatMap}
 use Prim.Native.Nat.{ℕ, zero, suc, _<_}
 use native.Mathlib.Omega.{arith}
 use lib.Dec.{eqb}
 use lib.ListN.{length}
 use borrow.Author.Tests.{eqb-true, eqb-false}
 use Rattle.fields.proofs.Tests.{never, and-both}
+use Rattle.fields.proofs.Lists.{flat-append}
 use Rattle.tree.specs.Lists.{In, Each, allOf, member, everyBelow}
 
 -- ---- tests
@@ -94,11 +95,6 @@ module _ {A B : Type 0} where
   unfolding flatMap
   flat-in f (z ∷ zs) y m =
       ⊎-elim (λ k. (z, inl refl, k)) (λ k. let r = flat-in f zs y k in (r .0, inr (r .1), r .2)) (in-append (f z) (flatMap f zs) y m)
-
-  pub flat-append : (f : A → List B) (xs ys : List A) → flatMap f (xs ++ ys) ≡ flatMap f xs ++ flatMap f ys
-  unfolding flatMap
-  flat-append f [] ys = refl
-  flat-append f (x ∷ xs) ys = ap (λ l. f x ++ l) (flat-append f xs ys) ∙ sym (append-assoc (f x) (flatMap f xs) (flatMap f ys))
 
 pub flat-flat : {A B C : Type 0} (g : B → List C) (f : A → List B) (xs : List A) → flatMap g (flatMap f xs) ≡ flatMap (λ x. flatMap g (f x)) xs
 unfolding flatMap

@@ -8,7 +8,8 @@ use native.Mathlib.Omega.{arith}
 use lib.ListN.{length}
 use Rattle.fields.proofs.Tests.{never}
 use Rattle.entries.specs.declared.Limits.{Limits}
-use Rattle.chunk.specs.Chunk.{Parsed, bad, listing, index, rising, headOf, countOf, tailOf, parsed, entriesIn, isKind}
+use Rattle.entries.specs.Rising.{rising}
+use Rattle.chunk.specs.Chunk.{Parsed, bad, listing, index, headOf, countOf, tailOf, parsed, entriesIn, isKind, entryName}
 use Rattle.chunk.proofs.Accepted.{accepted, entries-count}
 use Rattle.tree.specs.Shape.{Shape, isListing, isIndex, GoodChunks}
 
@@ -18,7 +19,7 @@ kind-of (listing a b es) h = (true, refl)
 kind-of (index es) h = (false, refl)
 
 parsed-good : (limits : Limits) (s : List ℕ) → (isListing (parsed limits s) || isIndex (parsed limits s)) ≡ true
-    → (0 < length (entriesIn (parsed limits s))) × (rising [] (entriesIn (parsed limits s)) ≡ true)
+    → (0 < length (entriesIn (parsed limits s))) × (rising entryName [] (entriesIn (parsed limits s)) ≡ true)
 parsed-good limits s h =
     let k = kind-of (parsed limits s) h in
     let g = accepted limits (k .0) s (k .1) in

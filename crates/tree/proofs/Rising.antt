@@ -8,8 +8,9 @@ use Prim.Native.Nat.{ℕ}
 use Rattle.fields.proofs.Tests.{never}
 use Rattle.names.specs.Names.{below, matches}
 use Rattle.names.proofs.Laws.{below-trans}
-use Rattle.chunk.specs.Chunk.{Entry, rising}
-use Rattle.chunk.proofs.Rising.{rising-more}
+use Rattle.entries.specs.Rising.{rising}
+use Rattle.chunk.specs.Chunk.{Entry, entryName}
+use Rattle.entries.proofs.Rising.{rising-more}
 use Rattle.seek.specs.Seek.{Sought, absent, found, lookup, choice, nth, nameIn, final}
 use Rattle.tree.specs.Lists.{In, Each}
 use Rattle.tree.proofs.Lists.{onTest}
@@ -22,33 +23,33 @@ abbrev pub Before : Entry → Entry → Type 0
 Before d e = below (d .name) (e .name) ≡ true
 
 -- `last` comes before every name
-rising-all : (last : List ℕ) (es : List Entry) → rising last es ≡ true → (e : Entry) → In e es → below last (e .name) ≡ true
-rising-all last (d ∷ es) h e (inl q) = rw q (rising-more last d es h .0)
+rising-all : (last : List ℕ) (es : List Entry) → rising entryName last es ≡ true → (e : Entry) → In e es → below last (e .name) ≡ true
+rising-all last (d ∷ es) h e (inl q) = rw q (rising-more entryName last d es h .0)
 rising-all last (d ∷ es) h e (inr m) =
-    let t = rising-more last d es h in
+    let t = rising-more entryName last d es h in
     below-trans last (d .name) (e .name) (t .0) (rising-all (d .name) es (t .1) e m)
 
-pub rising-each : (last : List ℕ) (es : List Entry) → rising last es ≡ true → Each Before es
+pub rising-each : (last : List ℕ) (es : List Entry) → rising entryName last es ≡ true → Each Before es
 rising-each last [] h = tt
 rising-each last (e ∷ es) h =
-    let t = rising-more last e es h in
+    let t = rising-more entryName last e es h in
     ((λ d m. rising-all (e .name) es (t .1) d m), rising-each (e .name) es (t .1))
 
 -- ---- lists put together
 
 -- a list may stand behind another name, if its first name does
-pub rising-behind : (x last : List ℕ) (es : List Entry) → rising last es ≡ true → below x (nameIn (nth 0 es)) ≡ true → rising x es ≡ true
+pub rising-behind : (x last : List ℕ) (es : List Entry) → rising entryName last es ≡ true → below x (nameIn (nth 0 es)) ≡ true → rising entryName x es ≡ true
 unfolding rising nth
 rising-behind x last [] h b = refl
-rising-behind x last (e ∷ es) h b = rw (b, rising-more last e es h .1)
+rising-behind x last (e ∷ es) h b = rw (b, rising-more entryName last e es h .1)
 
 -- one list behind another, whose last name is below its names
-pub rising-append : (last : List ℕ) (e : Entry) (es ds : List Entry) → rising last (e ∷ es) ≡ true → rising (nameIn (final absent (e ∷ es))) ds ≡ true
-    → rising last ((e ∷ es) ++ ds) ≡ true
+pub rising-append : (last : List ℕ) (e : Entry) (es ds : List Entry) → rising entryName last (e ∷ es) ≡ true → rising entryName (nameIn (final absent (e ∷ es))) ds ≡ true
+    → rising entryName last ((e ∷ es) ++ ds) ≡ true
 unfolding rising final
-rising-append last e [] ds h k = rw (rising-more last e [] h .0, k)
+rising-append last e [] ds h k = rw (rising-more entryName last e [] h .0, k)
 rising-append last e (d ∷ es) ds h k =
-    let t = rising-more last e (d ∷ es) h in
+    let t = rising-more entryName last e (d ∷ es) h in
     rw (t .0) (rising-append (e .name) d es ds (t .1) k)
 
 -- ---- the entry of a name

@@ -7,7 +7,8 @@ use mathlib.Core.List.{List, []}
 use Prim.Native.Nat.{ℕ, _<_}
 use lib.ListN.{length}
 use Rattle.names.specs.Names.{below, matches}
-use Rattle.chunk.specs.Chunk.{Entry, Parsed, rising, entriesIn}
+use Rattle.entries.specs.Rising.{rising}
+use Rattle.chunk.specs.Chunk.{Entry, Parsed, entriesIn, entryName}
 use Rattle.tree.specs.Lists.{In, Distinct}
 use Rattle.tree.specs.Shape.{Shape, isListing, firstName, GoodChunks}
 use Rattle.tree.specs.Chain.{chain, chainEntries, chainOk}
@@ -28,7 +29,7 @@ pub record Listed (D : ℕ → Parsed) (H : Shape) : Type 0 where
   pub chunks : (c : ℕ) → In c (chain D H) ↔ ((c < H .count) × (isListing (D c) ≡ true))
   pub once : Distinct (chain D H)
   -- and the names of their entries, one chunk behind another, rise
-  pub rises : rising [] (chainEntries D H) ≡ true
+  pub rises : rising entryName [] (chainEntries D H) ≡ true
 
 -- ---- the lookup: demand 3
 

@@ -6,8 +6,9 @@ use mathlib.Core.List.{List, []}
 use Prim.Native.Nat.{ℕ, _<_}
 use lib.Dec.{ltb}
 use lib.ListN.{length}
+use Rattle.entries.specs.Rising.{rising}
 use Rattle.refusals.specs.Refusals.{noChunk}
-use Rattle.chunk.specs.Chunk.{Parsed, bad, listing, index, rising, entriesIn, isKind}
+use Rattle.chunk.specs.Chunk.{Parsed, bad, listing, index, entriesIn, isKind, entryName}
 use Rattle.seek.specs.Seek.{absent, nth, nameIn, final}
 
 -- ---- the header's numbers (FORMAT D8 to D11)
@@ -61,4 +62,4 @@ pub record GoodChunks (D : ℕ → Parsed) (H : Shape) : Type 0 where
   -- has an entry,
   pub some : (c : ℕ) → c < H .count → 0 < length (entriesIn (D c))
   -- and its names rise
-  pub rises : (c : ℕ) → c < H .count → rising [] (entriesIn (D c)) ≡ true
+  pub rises : (c : ℕ) → c < H .count → rising entryName [] (entriesIn (D c)) ≡ true

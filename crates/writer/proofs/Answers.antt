@@ -31,7 +31,8 @@ use Rattle.writer.specs.Plan.{limits, Made, LevelFits, IndexFits, indexO
 use Rattle.writer.specs.declared.Written.{Written}
 use Rattle.writer.specs.declared.Written.the-variants.{Length, Refused}
 use Rattle.layout.proofs.Sizes.{length-file, length-section, length-directory}
-use Rattle.writer.proofs.Lengths.{flatten-append, length-level}
+use Rattle.fields.proofs.Lists.{flatten-append}
+use Rattle.writer.proofs.Lengths.{length-level}
 
 -- ---- the parts
 

@@ -1,7 +1,7 @@
 -- The headers as 32-bit numbers one behind another, as the code writes them.
 -- Assumes nothing.
 use mathlib.Core.Path.{_≡_, refl, sym, ap, ap₂, _∙_}
-use mathlib.Core.List.{List, [], _∷_, _++_, flatten}
+use mathlib.Core.List.{List, [], _∷_, _++_, flatten, flatMap}
 use Prim.Native.Nat.{ℕ, zero, suc, _+_, _*_, _/_, _%_, _^_, _≤_, _<_}
 use native.Mathlib.Nat.{pow-succ', mul-assoc}
 use native.Mathlib.Omega.{arith}
@@ -45,14 +45,14 @@ pub file-words : (time language count : ℕ) → count ≤ 4096
     → wordBytes (0x4653_5449 ∷ 3 ∷ 0x60 ∷ 1 ∷ time ∷ language ∷ 0x7C01_FD10 ∷ 0x11D0_7BAA ∷ 0xA000_0C9E ∷ 0xECE6_22C9
     ∷ 0x7C01_FD11 ∷ 0x11D0_7BAA ∷ 0xA000_0C9E ∷ 0xECE6_22C9 ∷ 0x60 ∷ 0 ∷ 24 ∷ 0 ∷ 0x78 ∷ 0 ∷ (84 + 4096 * count) ∷ 0 ∷ (204 + 4096 * count) ∷ 0 ∷ [])
     ≡ fileHeader time language count
-unfolding wordBytes fileHeader bytes flatten
+unfolding flatMap fileHeader bytes flatten
 file-words time language count h =
     let F : List ℕ → List ℕ → List ℕ =
     λ x y. flatten (fileTag ∷ bytes 4 3 ∷ bytes 4 0x60 ∷ bytes 4 1 ∷ bytes 4 time ∷ bytes 4 language ∷ fileGuid 0x10 ∷ fileGuid 0x11 ∷ bytes 8 0x60 ∷ bytes 8 24 ∷ bytes 8 0x78 ∷ x ∷ y ∷ []) in
     sym (ap₂ F (eight-small (84 + 4096 * count) (omega arith)) (eight-small (204 + 4096 * count) (omega arith)))
 
 pub section-words : (size : ℕ) → wordBytes (0x1FE ∷ 0 ∷ (size % 0x1_0000_0000) ∷ (size / 0x1_0000_0000) ∷ 0 ∷ 0 ∷ []) ≡ sectionZero size
-unfolding wordBytes sectionZero bytes flatten
+unfolding flatMap sectionZero bytes flatten
 section-words size =
     let F : List ℕ → List ℕ = λ x. flatten (bytes 4 0x1FE ∷ bytes 4 0 ∷ x ∷ bytes 4 0 ∷ bytes 4 0 ∷ []) in
     sym (ap F (eight size))
@@ -61,5 +61,5 @@ pub directory-words : (language density depth root last count : ℕ)
     → wordBytes (0x5053_5449 ∷ 1 ∷ 0x54 ∷ 0x0A ∷ 4096 ∷ density ∷ depth ∷ root ∷ 0 ∷ last ∷ unknownWord ∷ count ∷ language
     ∷ 0x5D02_926A ∷ 0x11D0_212E ∷ 0xA000_F99D ∷ 0xECE6_22C9 ∷ 0x54 ∷ unknownWord ∷ unknownWord ∷ unknownWord ∷ [])
     ≡ directoryHeader language density depth root last count
-unfolding wordBytes directoryHeader bytes flatten
+unfolding flatMap directoryHeader bytes flatten
 directory-words language density depth root last count = refl

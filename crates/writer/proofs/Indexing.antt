@@ -4,9 +4,9 @@
 use mathlib.Core.Path.{_≡_, refl, sym, ap, subst, _∙_}
 use mathlib.Core.Bool.{false}
 use mathlib.Core.List.{List, [], _∷_, _++_, map, flatten}
-use Prim.Native.Nat.{ℕ, suc, _+_, _-_, _*_, _≤_, _<_}
+use Prim.Native.Nat.{ℕ, _+_, _-_, _*_, _≤_, _<_}
 use native.Mathlib.Omega.{arith}
-use lib.ListN.{length, take, length-append}
+use lib.ListN.{length, take}
 use lib.Seq.{sets}
 use Rattle.fields.specs.Part.{part}
 use Rattle.fields.proofs.Put.{sets-after}
@@ -15,11 +15,12 @@ use Rattle.pack.specs.Groups.{fits}
 use Rattle.pack.specs.Levels.{entrySize, level, childrenOf, levelsAbove}
 use Rattle.pack.specs.Starts.{chunksFrom, Starts, AllStarts}
 use Rattle.pack.proofs.Groups.{groups-some}
-use Rattle.pack.proofs.Above.{upper, above-more, above-none, length-children}
+use Rattle.pack.proofs.Above.{upper, above-none, length-children}
 use Rattle.layout.specs.Layout.{Layout, layoutOver, chunkCount, chunksOf}
 use Rattle.writer.specs.Plan.{LevelFits, IndexFits, indexOf}
-use Rattle.writer.proofs.Lengths.{flatten-append, chunks-append, length-level}
-use Rattle.writer.proofs.Shaping.{upper-is, upper-count}
+use Rattle.fields.proofs.Lists.{flatten-append}
+use Rattle.writer.proofs.Lengths.{chunks-append, length-level}
+use Rattle.writer.proofs.Shaping.{upper-is, upper-count, next-level, above-count}
 
 first-level : (s starts : List ℕ) (c : ℕ) (gs : List (List Stored)) (ls : List (List (List Stored))) → AllStarts s starts c (gs ∷ ls) → Starts s (part starts c (length gs)) gs
 first-level s starts c gs ls (AllStarts.level p ps) = p
@@ -74,19 +75,17 @@ module _ (content : ℕ) (s starts : List ℕ) (n m : ℕ) (leaves : List (List 
       abbrev others : List (List (List Stored))
       others = levelsAbove n (6 - (p .depth + 1)) end up
 
-      next-level : levelsAbove n (6 - p .depth) base (p .gs) ≡ up ∷ others
-      next-level =
-          let e : 6 - p .depth ≡ suc (6 - (p .depth + 1)) = omega (arith, p .deep) in
-          ap (λ (j : ℕ). levelsAbove n j base (p .gs)) e
-          ∙ above-more n (6 - (p .depth + 1)) base (p .gs) (omega (arith, p .size))
-          ∙ ap (λ (j : ℕ). up ∷ levelsAbove n (6 - (p .depth + 1)) j up) (p .size)
+      low : p .depth ≤ 5
+      low = omega (arith, p .deep)
+
+      level-above : levelsAbove n (6 - p .depth) base (p .gs) ≡ up ∷ others
+      level-above = next-level n (p .depth) base end (p .gs) (p .size) low more
 
       named-here : Starts s (part starts base (length (p .gs))) (p .gs)
       named-here = first-level s starts base (p .gs) (levelsAbove n (6 - p .depth) base (p .gs)) (p .named)
 
-      above-count : length (flatten (levelsAbove n (6 - p .depth) base (p .gs))) ≡ length up + length (flatten others)
-      unfolding flatten
-      above-count = ap (λ (l : List (List (List Stored))). length (flatten l)) next-level ∙ length-append up (flatten others)
+      count-above : length (flatten (levelsAbove n (6 - p .depth) base (p .gs))) ≡ length up + length (flatten others)
+      count-above = above-count n (p .depth) base end (p .gs) (p .size) low more
 
       in-starts : end ≤ length starts
       in-starts = omega (arith, p .count, f .small, f .known)
@@ -98,15 +97,15 @@ module _ (content : ℕ) (s starts : List ℕ) (n m : ℕ) (leaves : List (List 
       indexing-room =
           record {
             known = in-starts;
-            few = omega (arith, up-count, above-count, p .count, f .small);
-            enough = omega (arith, up-count, above-count, p .count, f .enough, p .kept);
+            few = omega (arith, up-count, count-above, p .count, f .small);
+            enough = omega (arith, up-count, count-above, p .count, f .enough, p .kept);
           }
 
       -- the level has a chunk
       pub indexing-some : (next : ℕ) → next ≡ end + length (chunksFrom content s (take end starts) false n (end - base) base) → (end < next) × (next ≤ 4096)
       indexing-some next e =
           let g = groups-some (entrySize false) (fits false n) (childrenOf base (p .gs)) (omega (arith, length-children base (p .gs), p .some)) in
-          (omega (arith, up-count), omega (arith, up-count, above-count, p .count, f .small))
+          (omega (arith, up-count), omega (arith, up-count, count-above, p .count, f .small))
 
       pub indexing-turn : (after : List ℕ) (next : ℕ) → length after ≡ length out → next ≡ end + length (chunksFrom content s (take end starts) false n (end - base) base)
           → after ≡ sets out (204 + 4096 * end) (flatten (chunksOf false n m end (map (map (storedOf s)) (chunksFrom content s (take end starts) false n (end - base) base))))
@@ -124,7 +123,7 @@ module _ (content : ℕ) (s starts : List ℕ) (n m : ℕ) (leaves : List (List 
           let there = flatten (chunksOf false n m next (flatten others)) in
           let place : 204 + 4096 * next ≡ 204 + 4096 * end + length here = omega arith in
           let both : here ++ there ≡ flatten (chunksOf false n m end (flatten (levelsAbove n (6 - p .depth) base (p .gs)))) =
-          sym (ap (λ (y : List (List (List Stored))). flatten (chunksOf false n m end (flatten y))) next-level
+          sym (ap (λ (y : List (List (List Stored))). flatten (chunksOf false n m end (flatten y))) level-above
           ∙ ap flatten (chunks-append false n m end up (flatten others))
           ∙ flatten-append (chunksOf false n m end up) (chunksOf false n m (end + length up) (flatten others))
           ∙ ap (λ (j : ℕ). here ++ flatten (chunksOf false n m j (flatten others))) sz) in
@@ -136,9 +135,9 @@ module _ (content : ℕ) (s starts : List ℕ) (n m : ℕ) (leaves : List (List 
             kept = l ∙ p .kept;
             named =
                 subst (λ (j : ℕ). AllStarts s starts j (up ∷ others)) (p .size)
-                (subst (AllStarts s starts (base + length (p .gs))) next-level (other-levels s starts base (p .gs) (levelsAbove n (6 - p .depth) base (p .gs)) (p .named)));
-            count = omega (arith, above-count, p .count);
-            deep = omega (arith, ap length next-level, p .deep);
+                (subst (AllStarts s starts (base + length (p .gs))) level-above (other-levels s starts base (p .gs) (levelsAbove n (6 - p .depth) base (p .gs)) (p .named)));
+            count = omega (arith, count-above, p .count);
+            deep = omega (arith, ap length level-above, p .deep);
             whole =
                 ap (λ (o : List ℕ). sets o (204 + 4096 * next) there) (w ∙ ap (λ (y : List (List Stored)). sets out (204 + 4096 * end) (flatten (chunksOf false n m end y))) ui)
                 ∙ ap (λ (j : ℕ). sets (sets out (204 + 4096 * end) here) j there) place

@@ -1,8 +1,8 @@
 -- Chunks one behind another: each is 4,096 bytes long, and those of several levels are those of one behind another.
 -- Assumes nothing.
-use mathlib.Core.Path.{_≡_, refl, sym, ap, _∙_}
+use mathlib.Core.Path.{_≡_, sym, ap, _∙_}
 use mathlib.Core.Bool.{Bool}
-use mathlib.Core.List.{List, [], _∷_, _++_, map, flatten, append-assoc}
+use mathlib.Core.List.{List, [], _∷_, _++_, map, flatten}
 use Prim.Native.Nat.{ℕ, _+_, _*_, _≤_}
 use native.Mathlib.Nat.{add-zero}
 use native.Mathlib.Omega.{arith}
@@ -12,7 +12,7 @@ use Rattle.fields.proofs.Parts.{length-part}
 use Rattle.entries.specs.declared.Place.{Place}
 use Rattle.entries.specs.Stored.{Stored, storedOf}
 use Rattle.source.specs.Source.{rowsFrom}
-use Rattle.source.proofs.All.{All, none, more}
+use Rattle.fields.proofs.Lists.{All, none, more}
 use Rattle.source.proofs.Rows.{Row, rows-all}
 use Rattle.pack.specs.Levels.{level}
 use Rattle.pack.specs.Starts.{chunksFrom}
@@ -21,11 +21,6 @@ use Rattle.pack.proofs.Fitting.{Short, level-fit}
 use Rattle.compose.specs.NewChunk.{newChunk}
 use Rattle.layout.specs.Layout.{prevOf, nextOf, chunksOf}
 use Rattle.layout.proofs.Filled.{length-all}
-
-pub flatten-append : {A : Type 0} (a b : List (List A)) → flatten (a ++ b) ≡ flatten a ++ flatten b
-unfolding flatten
-flatten-append [] b = refl
-flatten-append (x ∷ a) b = ap (λ (l : List _). x ++ l) (flatten-append a b) ∙ sym (append-assoc x (flatten a) (flatten b))
 
 pub chunks-append : (k : Bool) (n m c : ℕ) (a b : List (List Stored)) → chunksOf k n m c (a ++ b) ≡ chunksOf k n m c a ++ chunksOf k n m (c + length a) b
 unfolding chunksOf

@@ -18,10 +18,11 @@ use Rattle.entries.specs.Entry.{listingAt, nameOf}
 use Rattle.entries.specs.declared.Place.{Place}
 use Rattle.entries.specs.declared.Item.the-variants.{Good}
 use Rattle.chunk.specs.Chunk.{headOf, quickCount}
+use Rattle.entries.proofs.Laws.{listing-inside}
 use Rattle.entries.specs.Stored.{storedOf, entryBytes, unpadded}
 use Rattle.source.specs.Source.{itemFrom, rowsFrom}
 use Rattle.source.specs.Input.{inputRight}
-use Rattle.source.proofs.Rows.{given-row, run-more}
+use Rattle.source.proofs.Rows.{run-more}
 use Rattle.source.proofs.Inputs.{passes, ahead, passes-start, passes-end, passes-more}
 use Rattle.pack.specs.Groups.{fits, taken}
 use Rattle.pack.specs.Fill.{rowSize}
@@ -102,7 +103,7 @@ module _ (content : ℕ) (s : List ℕ) (n : ℕ) (starts₀ : List ℕ) where
 
       -- the size of what is written for it
       written-size : length (entryBytes true (storedOf s e)) ≡ rowSize true e
-      written-size = row-bytes true s e (given-row content s here e q .row .inside)
+      written-size = row-bytes true s e (listing-inside content s here e q .name)
 
       pub reading-padded : (size : ℕ) → size ≡ rowSize true e → (e .next - e .at ≡ size → ⊥) → inputRight content s ≡ false
       reading-padded size z h =
@@ -111,17 +112,17 @@ module _ (content : ℕ) (s : List ℕ) (n : ℕ) (starts₀ : List ℕ) where
           rw u at right-entry
 
       short-entry : (size : ℕ) → size ≡ rowSize true e → e .next - e .at ≡ size → unpadded s e ≡ true
-      short-entry size z h = eq-eqb (e .next) (e .at + length (entryBytes true (storedOf s e))) (omega (arith, written-size, given-row content s here e q .moves))
+      short-entry size z h = eq-eqb (e .next) (e .at + length (entryBytes true (storedOf s e))) (omega (arith, written-size, listing-inside content s here e q .moves, listing-inside content s here e q .same))
 
       pub reading-falls : below (part s from len) (nameOf s e) ≡ false → inputRight content s ≡ false
       reading-falls h = rw (h, and-no) at right-entry
 
       pub reading-next : length s < 2 ^ 64 → (size : ℕ) → size ≡ rowSize true e → Next f e size
       reading-next l size z =
-          let g = given-row content s here e q in
+          let g = listing-inside content s here e q in
           record {
             sized = z;
-            short = g .row .short;
+            short = g .short;
             small = p .small;
             counted = p .counted;
             numbered = omega (arith, p .numbered);
@@ -141,31 +142,31 @@ module _ (content : ℕ) (s : List ℕ) (n : ℕ) (starts₀ : List ℕ) where
             (cond t (record { chunks = f .chunks; count = f .count + 1; bytes = f .bytes + rowSize true e }) (record { chunks = f .chunks + 1; count = 1; bytes = rowSize true e }))
         unfolding firstAt
         turn true z =
-            let g = given-row content s here e q in
+            let g = listing-inside content s here e q in
             let x : Open = record { chunks = f .chunks; count = f .count + 1; bytes = f .bytes + rowSize true e } in
             let a : coming f left here ≡ coming x (left - 1) (e .next) =
             ap (later (rowSize true) (fits true n) (f .count) (f .bytes)) row-coming ∙ later-fits (rowSize true) (fits true n) (f .count) (f .bytes) e (rows (left - 1) (e .next)) z in
             record {
               kept = p .kept;
-              named = g .row .inside;
+              named = g .name;
               small = omega (arith, fits-small true n (f .count + 1) (f .bytes + rowSize true e) z);
-              counted = omega (arith, p .counted, row-long true e, g .row .some);
+              counted = omega (arith, p .counted, row-long true e, g .some);
               numbered = omega (arith, p .numbered);
               right = right-on;
               rest = omega (arith, ap length a, p .rest);
               whole = ap (λ (gs : List (List Place)). sets starts (f .chunks) (map firstAt gs)) (sym a) ∙ p .whole;
             }
         turn false z =
-            let g = given-row content s here e q in
+            let g = listing-inside content s here e q in
             let x : Open = record { chunks = f .chunks + 1; count = 1; bytes = rowSize true e } in
             let first : List Place = e ∷ take (taken (rowSize true) (fits true n) 1 (rowSize true e) (rows (left - 1) (e .next))) (rows (left - 1) (e .next)) in
             let a : coming f left here ≡ first ∷ coming x (left - 1) (e .next) =
             ap (later (rowSize true) (fits true n) (f .count) (f .bytes)) row-coming ∙ later-full (rowSize true) (fits true n) (f .count) (f .bytes) e (rows (left - 1) (e .next)) z in
             record {
               kept = length-set starts (f .chunks) (e .at) ∙ p .kept;
-              named = g .row .inside;
-              small = omega (arith, row-short true e (g .row .short));
-              counted = omega (arith, row-long true e, g .row .some);
+              named = g .name;
+              small = omega (arith, row-short true e (g .short));
+              counted = omega (arith, row-long true e, g .some);
               numbered = omega (arith, p .numbered);
               right = right-on;
               rest = omega (arith, ap length a, p .rest);

@@ -38,6 +38,22 @@ module _ (content : ℕ) (s : List ℕ) (n : ℕ) (starts : List ℕ) (base end 
   pub upper-count : length (chunksFrom content s (take end starts) false n (end - base) base) ≡ length (upper n 0 base gs)
   upper-count = sym (length-map (chunksFrom content s (take end starts) false n (end - base) base) (map (storedOf s))) ∙ ap length upper-is
 
+-- ---- the levels above chunks of which there are several: the next one, and those above it
+
+module _ (n depth base end : ℕ) (gs : List (List Stored)) (size : base + length gs ≡ end) (low : depth ≤ 5) (more : 1 < end - base) where
+  pub next-level : levelsAbove n (6 - depth) base gs ≡ upper n 0 base gs ∷ levelsAbove n (6 - (depth + 1)) end (upper n 0 base gs)
+  next-level =
+      let e : 6 - depth ≡ suc (6 - (depth + 1)) = omega (arith, low) in
+      ap (λ (j : ℕ). levelsAbove n j base gs) e
+      ∙ above-more n (6 - (depth + 1)) base gs (omega (arith, size))
+      ∙ ap (λ (j : ℕ). upper n 0 base gs ∷ levelsAbove n (6 - (depth + 1)) j (upper n 0 base gs)) size
+
+  pub above-count : length (flatten (levelsAbove n (6 - depth) base gs)) ≡ length (upper n 0 base gs) + length (flatten (levelsAbove n (6 - (depth + 1)) end (upper n 0 base gs)))
+  unfolding flatten
+  above-count =
+      ap (λ (l : List (List (List Stored))). length (flatten l)) next-level
+      ∙ length-append (upper n 0 base gs) (flatten (levelsAbove n (6 - (depth + 1)) end (upper n 0 base gs)))
+
 -- ---- the loop
 
 module _ (content : ℕ) (s : List ℕ) (n : ℕ) (leaves : List (List Stored)) where
@@ -112,26 +128,21 @@ module _ (content : ℕ) (s : List ℕ) (n : ℕ) (leaves : List (List Stored)) 
       abbrev up : List (List Stored)
       up = upper n 0 base (p .gs)
 
-      next-level : levelsAbove n (6 - depth) base (p .gs) ≡ up ∷ levelsAbove n (6 - (depth + 1)) end up
-      next-level =
-          let f : 6 - depth ≡ suc (6 - (depth + 1)) = omega (arith, p .high) in
-          ap (λ (j : ℕ). levelsAbove n j base (p .gs)) f
-          ∙ above-more n (6 - (depth + 1)) base (p .gs) (omega (arith, p .size))
-          ∙ ap (λ (j : ℕ). up ∷ levelsAbove n (6 - (depth + 1)) j up) (p .size)
+      level-above : levelsAbove n (6 - depth) base (p .gs) ≡ up ∷ levelsAbove n (6 - (depth + 1)) end up
+      level-above = next-level n depth base end (p .gs) (p .size) (p .high) more
 
       pub shaping-deep : depth ≡ 5 → smallEnough l ≡ false
-      shaping-deep h = too-deep l (omega (arith, p .deep, ap length next-level))
+      shaping-deep h = too-deep l (omega (arith, p .deep, ap length level-above))
 
-      above-count : length (flatten (levelsAbove n (6 - depth) base (p .gs))) ≡ length up + length (flatten (levelsAbove n (6 - (depth + 1)) end up))
-      unfolding flatten
-      above-count = ap (λ (l : List (List (List Stored))). length (flatten l)) next-level ∙ length-append up (flatten (levelsAbove n (6 - (depth + 1)) end up))
+      count-above : length (flatten (levelsAbove n (6 - depth) base (p .gs))) ≡ length up + length (flatten (levelsAbove n (6 - (depth + 1)) end up))
+      count-above = above-count n depth base end (p .gs) (p .size) (p .high) more
 
       module _ (after : List ℕ) (next : ℕ) (same : length after ≡ length starts) (q : LevelPlanned content s n base end starts after next) where
         up-count : length (chunksFrom content s (take end starts) false n (end - base) base) ≡ length up
         up-count = upper-count content s n starts base end (p .gs) (p .size) (p .inside) (p .named)
 
         pub shaping-over : length starts < next → smallEnough l ≡ false
-        shaping-over h = too-many l (omega (arith, q .over h, up-count, above-count, p .count, p .kept))
+        shaping-over h = too-many l (omega (arith, q .over h, up-count, count-above, p .count, p .kept))
 
         pub shaping-turn : next ≤ length starts → (depth ≡ 5 → ⊥) → Shaping m after (depth + 1) end next
         shaping-turn h five =
@@ -156,12 +167,12 @@ module _ (content : ℕ) (s : List ℕ) (n : ℕ) (leaves : List (List Stored)) 
               low = omega arith;
               high = omega (arith, p .high);
               named = subst (λ (y : List ℕ). Starts s y up) (sym back) (subst (Starts s ps) ui (starts-of content s (take end starts) false n (end - base) base));
-              count = omega (arith, above-count, p .count);
-              deep = omega (arith, ap length next-level, p .deep);
+              count = omega (arith, count-above, p .count);
+              deep = omega (arith, ap length level-above, p .deep);
               final = λ f e a.
                   let fe : take end f ≡ take end starts = sym (take-take end next f (omega arith)) ∙ ap (take end) e ∙ take-take end next after (omega arith) ∙ front in
                   p .final f fe
-                  (subst (λ (l : List (List (List Stored))). AllStarts s f base (p .gs ∷ l)) (sym next-level)
+                  (subst (λ (l : List (List (List Stored))). AllStarts s f base (p .gs ∷ l)) (sym level-above)
                   (AllStarts.level (subst (λ (y : List ℕ). Starts s y (p .gs)) (sym (part-alike f starts base (length (p .gs)) end (p .size) fe)) (p .named))
                   (subst (λ (j : ℕ). AllStarts s f j (up ∷ levelsAbove n (6 - (depth + 1)) end up)) (sym (p .size)) a)));
             }

@@ -10,7 +10,7 @@ use Rattle.fields.specs.Same.{same}
 use Rattle.entries.specs.Entry.{itemAt, nameOf}
 use Rattle.entries.specs.declared.Item.{Item}
 use Rattle.entries.specs.declared.Item.the-variants.{Good, Bad}
-use Rattle.entries.proofs.Laws.{item-inside, index-child}
+use Rattle.entries.proofs.Laws.{item-inside, index-apart}
 use Rattle.tree.specs.Shape.{firstName}
 use Rattle.book.specs.Book.{limitsOf, chunkBytes, directoryOf}
 use Rattle.opening.specs.Passes.{childAt}
@@ -31,8 +31,8 @@ inside : (c : tie.After-known-told) → let b = c .before .before .before .befor
 inside c = rw (c .before .before .before .before .before .chunk-bytes .ensures) (item-inside _ _ _ _ _ (read-is (c .before)) .name)
 
 child-below : (c : tie.After-known-told) → c .before .x .given .0 .0 .child < c .before .before .before .before .before .before .before .args .book .count
-unfolding limitsOf
-child-below c = index-child _ _ _ _ (read-is (c .before))
+unfolding limitsOf itemAt
+child-below c = index-apart _ _ _ _ (read-is (c .before)) .below
 
 named-is : (c : tie.After-is-named) → let x = c .before .before .before in let a = x .before .before .before .before .before .before .args in
     c .is-named .result ≡ same (nameOf (chunkBytes (now (a .file)) (a .book) (a .c)) (x .x .given .0 .0)) (firstName (directoryOf (now (a .file)) (a .book) (x .x .given .0 .0 .child)))

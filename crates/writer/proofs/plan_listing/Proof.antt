@@ -7,7 +7,8 @@ use native.Mathlib.Omega.{arith}
 use denote.Ref.{now}
 use Rattle.fields.proofs.Tests.{held, failed}
 use Rattle.entries.specs.Entry.{listingAt}
-use Rattle.source.proofs.Rows.{Stepped, taken-entry, run-end, given-row}
+use Rattle.entries.proofs.Laws.{listing-inside}
+use Rattle.source.proofs.Rows.{Stepped, taken-entry, run-end}
 use Rattle.source.proofs.Inputs.{ahead, passes-empty}
 use Rattle.pack.specs.Fill.{rowSize}
 use Rattle.pack.proofs.Sizes.{size-row}
@@ -68,10 +69,10 @@ entry-size-requires c κs = search needs
 
 -- the size of what is written for the entry
 sized : (c : tie.After-entry-size Inv-loop μ-loop) → c .entry-size .result ≡ rowSize true (c .before .before .e .given .0 .0)
-sized c = c .entry-size .ensures ∙ size-row _ _ (given-row _ _ _ _ (read-is (c .before .before) .item) .row .short)
+sized c = c .entry-size .ensures ∙ size-row _ _ (listing-inside _ _ _ _ (read-is (c .before .before) .item) .short)
 
 sub-if3 : tie.Need-sub-if3 Inv-loop μ-loop
-sub-if3 c = omega (arith, given-row _ _ _ _ (read-is (c .before .before .before) .item) .moves)
+sub-if3 c = let i = listing-inside _ _ _ _ (read-is (c .before .before .before) .item) in omega (arith, i .moves, i .same)
 
 same-length-3 : tie.Need-same-length-3 Inv-loop μ-loop
 same-length-3 c = c .before .before .before .before .before .before .before .loop .inv .kept
@@ -85,7 +86,7 @@ returns-4 c =
 rises-requires : tie.Need-rises-requires Inv-loop μ-loop
 rises-requires c κs =
     let e = c .before .before .before .before in
-    (e .before .before .before .loop .inv .named, given-row _ _ _ _ (read-is e .item) .row .inside)
+    (e .before .before .before .loop .inv .named, listing-inside _ _ _ _ (read-is e .item) .name)
 
 same-length-4 : tie.Need-same-length-4 Inv-loop μ-loop
 same-length-4 c = c .before .before .before .before .before .before .before .before .before .loop .inv .kept
