@@ -142,7 +142,7 @@ fn root_right(d: &[u8]) -> bool
         if n != 1 {
             return false;
         }
-        if top == refusals::no_chunk() {
+        if top == refusals::no_chunk() as u64 {
             return true;
         }
         return top == 0;

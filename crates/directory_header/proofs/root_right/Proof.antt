@@ -25,6 +25,9 @@ returns c =
 no-chunk-requires : tie.Need-no-chunk-requires
 no-chunk-requires c κs = search needs
 
+cast-if3 : tie.Need-cast-if3
+cast-if3 c = search needs
+
 returns-2 : tie.Need-returns-2
 unfolding rootRight
 returns-2 c =
@@ -74,6 +77,7 @@ root-right-spec =
     depth-requires
     returns
     no-chunk-requires
+    cast-if3
     returns-2
     returns-3
     returns-4
