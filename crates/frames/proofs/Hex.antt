@@ -7,7 +7,7 @@ use native.Mathlib.Omega.{arith}
 use lib.ListN.{length, getD, drop, set, length-set, drop-of-length-le}
 use lib.Seq.{sets}
 use Rattle.fields.proofs.Parts.{drop-more}
-use Rattle.frames.specs.Frame.{hexDigit, hexOf}
+use Rattle.frames.specs.Hex.{hexDigit, hexOf}
 
 -- before byte i is written, in the list that was t₀
 pub record Left (bytes t₀ t : List ℕ) (i : ℕ) : Type 0 where

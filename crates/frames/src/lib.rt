@@ -4,7 +4,8 @@ ghost use mathlib.Core.Path.{_≡_};
 ghost use Prim.Native.Nat.{_+_, _*_, _<_, _≤_};
 ghost use lib.ListN.{length};
 ghost use lib.Seq.{sets};
-ghost use Rattle.frames.specs.Frame.{hexDigit, hexOf, refusalBytes};
+ghost use Rattle.frames.specs.Frame.{refusalBytes};
+ghost use Rattle.frames.specs.Hex.{hexDigit, hexOf};
 use libc::STDOUT_FILENO;
 use refusals::Refusal;
 

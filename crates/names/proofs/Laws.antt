@@ -2,10 +2,10 @@
 -- Assumes nothing.
 use mathlib.Core.Path.{_≡_, refl, sym, ap, _∙_}
 use mathlib.Core.Logic.{_≢_, _⊎_, inl, inr, ⊎-elim}
-use mathlib.Core.Bool.{true, false, false≢true}
+use mathlib.Core.Bool.{Bool, true, false, false≢true}
 use mathlib.Core.List.{List, [], _∷_, _++_}
 use Prim.Native.Nat.{ℕ}
-use Rattle.names.specs.Order.{flip, isLess, isEqual, notGreater, byElement, OrderLaws}
+use Rattle.names.specs.Order.{flip, isLess, isEqual, byElement, OrderLaws}
 use Rattle.names.specs.Names.{folded, compared, below, matches}
 use Rattle.names.specs.declared.Order.{Order}
 use Rattle.names.specs.declared.Order.the-variants.{Less, Equal, Greater}
@@ -20,6 +20,12 @@ names-laws = lists-laws (through-laws numbers-laws folded)
 pub compared-behind : (p a b : List ℕ) → compared (p ++ a) (p ++ b) ≡ compared a b
 unfolding compared
 compared-behind p a b = lists-behind (through-laws numbers-laws folded) p a b
+
+-- not behind
+abbrev pub notGreater : Order → Bool
+notGreater Less = true
+notGreater Equal = true
+notGreater Greater = false
 
 -- ---- a test of an answer tells the answer; the other way round is `ap isLess`, `ap isEqual`, `ap notGreater`
 

@@ -27,11 +27,6 @@ isEqual Less = false
 isEqual Equal = true
 isEqual Greater = false
 
-abbrev pub notGreater : Order → Bool
-notGreater Less = true
-notGreater Equal = true
-notGreater Greater = false
-
 -- ---- comparisons put together
 
 -- the first of two answers decides, unless it is `Equal`

@@ -15,7 +15,7 @@ use Rattle.chunk.specs.Answer.{chunkOf}
 use Rattle.chunk.specs.declared.Chunk.{Chunk}
 use Rattle.header.specs.declared.Record.{Record}
 use Rattle.tree.specs.Shape.{isListing, isIndex}
-use Rattle.tree.specs.Lists.{countBelow}
+use Rattle.tree.specs.Walk.{countBelow}
 use Rattle.book.specs.Book.{directoryOf, metChunk}
 use Rattle.opening.specs.Opened.{chunksThen}
 use Rattle.opening.specs.declared.Opened.{Opened}

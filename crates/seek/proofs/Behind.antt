@@ -7,10 +7,10 @@ use mathlib.Core.Bool.{true, false, false≢true}
 use Prim.Native.Nat.{ℕ, zero, suc, _≤_, _<_}
 use native.Mathlib.Omega.{arith}
 use lib.ListN.{length, getD, take, drop}
-use Rattle.names.specs.Order.{isLess, notGreater}
+use Rattle.names.specs.Order.{isLess}
 use Rattle.names.specs.Names.{compared, below, matches}
 use Rattle.names.specs.declared.Order.the-variants.{Greater}
-use Rattle.names.proofs.Laws.{names-laws, isLess-true, below-less, not-less, less-notGreater, notGreater-less, flip-less}
+use Rattle.names.proofs.Laws.{notGreater, names-laws, isLess-true, below-less, not-less, less-notGreater, notGreater-less, flip-less}
 use Rattle.entries.specs.Rising.{rising}
 use Rattle.chunk.specs.Chunk.{Entry, entryName}
 use Rattle.entries.proofs.Rising.{rising-more, rising-at}

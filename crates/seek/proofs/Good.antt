@@ -13,7 +13,8 @@ use native.Mathlib.Decide.{decLt}
 use native.Mathlib.Nat.{div-add-mod'}
 use lib.ListN.{length, take, drop}
 use borrow.Author.Tests.{lt-ltb, le-ltb}
-use Rattle.names.specs.Order.{isLess, isEqual, notGreater}
+use Rattle.names.specs.Order.{isLess, isEqual}
+use Rattle.names.proofs.Laws.{notGreater}
 use Rattle.names.specs.Names.{compared, below, matches}
 use Rattle.names.specs.declared.Order.{Order}
 use Rattle.names.specs.declared.Order.the-variants.{Less, Equal, Greater}

@@ -10,7 +10,8 @@ use lib.Dec.{eqb}
 use lib.ListN.{length}
 use borrow.Author.Tests.{eqb-true, eq-eqb, ne-eqb, eqb-false}
 use Rattle.fields.proofs.Tests.{never}
-use Rattle.tree.specs.Lists.{In, Distinct, member, everyBelow, countBelow}
+use Rattle.tree.specs.Lists.{In, Distinct, member, everyBelow}
+use Rattle.tree.specs.Walk.{countBelow}
 use Rattle.tree.proofs.Lists.{onTest, same-test, implied, implied-by, member-in, every-below, below-every}
 
 pub count-bound : (n : ℕ) (p : ℕ → Bool) → countBelow n p ≤ n

@@ -36,8 +36,3 @@ member n (x ∷ xs) = eqb n x || member n xs
 abbrev pub everyBelow : ℕ → (ℕ → Bool) → Bool
 everyBelow zero p = true
 everyBelow (suc n) p = everyBelow n p && p n
-
--- how many numbers below n pass the test
-abbrev pub countBelow : ℕ → (ℕ → Bool) → ℕ
-countBelow zero p = 0
-countBelow (suc n) p = cond (p n) (suc (countBelow n p)) (countBelow n p)

@@ -10,11 +10,15 @@ use Rattle.fields.specs.Same.{same}
 use Rattle.refusals.specs.Refusals.{noChunk}
 use Rattle.names.specs.Names.{below}
 use Rattle.chunk.specs.Chunk.{Entry, Parsed, entriesIn}
-use Rattle.tree.specs.Lists.{countBelow}
 use Rattle.tree.specs.Shape.{Shape, isListing, isIndex, previousOf, nextOf, firstName, lastName, listingChunk, indexChunk}
 use Rattle.tree.specs.Tree.{top}
 use Rattle.tree.specs.Descent.{Outcome}
 use Rattle.tree.specs.Reading.{readFrom, firstEqual}
+
+-- how many numbers below n pass the test
+abbrev pub countBelow : ℕ → (ℕ → Bool) → ℕ
+countBelow zero p = 0
+countBelow (suc n) p = cond (p n) (suc (countBelow n p)) (countBelow n p)
 
 -- how many chunks below the count are of a kind
 abbrev pub listings : (ℕ → Parsed) → Shape → ℕ
