@@ -188,7 +188,12 @@ pub extern "C" fn hods_compare_step(
     ensures totals { λ _. ⌜ now (totals .exit) ≡ compareTotals (compareStep (now (file1 .entry)) (recordIn (now (one .entry))) (now (file2 .entry)) (recordIn (now (two .entry))) (walksIn (now (cursor .entry)))) (now (totals .entry)) ⌝ }
 {
     let at = differences::walks_in(cursor);
-    let told = at.step(file1, numbers::record_in(one), file2, numbers::record_in(two));
+    let told = at.step(
+        file1,
+        numbers::record_in(one),
+        file2,
+        numbers::record_in(two),
+    );
     differences::tell_comparison(told, cursor, difference, totals)
 }
 
