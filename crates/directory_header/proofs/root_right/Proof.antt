@@ -1,74 +1,35 @@
 -- `directory_header::root_right` meets its contract. Assumes nothing.
-use borrow.Author.Needs.{needs}
 use borrow.Author.Tests.{eq-eqb, ne-eqb}
 use Rattle.directory_header.specs.DirectoryHeader.{rootRight}
 use Rattle.directory_header.proofs.root_right.Statement.{statement}
 use Rattle.directory_header.proofs.root_right.Tie as tie
 
-count-requires : tie.Need-count-requires
-count-requires c κs = search needs
-
-root-requires : tie.Need-root-requires
-root-requires c κs = search needs
-
-depth-requires : tie.Need-depth-requires
-depth-requires c κs = search needs
-
 returns : tie.Need-returns
 unfolding rootRight
-returns c =
-    let d = c .before .before in
-    rw (← d .depth .ensures, eq-eqb _ _ (c .before .if1 .taken), ← d .before .before .count .ensures, ne-eqb _ _ (c .if2 .taken))
+returns c = rw (eq-eqb _ _ (c .before .before .if1 .taken), ne-eqb _ _ (c .if2 .taken))
 
 returns-2 : tie.Need-returns-2
 unfolding rootRight
 returns-2 c =
-    let two = c .before in
-    let d = two .before .before in
-    rw (
-      ← d .depth .ensures,
-      eq-eqb _ _ (two .before .if1 .taken),
-      ← d .before .before .count .ensures,
-      eq-eqb _ _ (two .if2 .left),
-      ← d .before .root .ensures,
-      eq-eqb _ _ (c .if3 .taken),
-    )
+    let two = c .before .before in
+    rw (eq-eqb _ _ (two .before .before .if1 .taken), eq-eqb _ _ (two .if2 .left), eq-eqb _ _ (c .if3 .taken))
 
 returns-3 : tie.Need-returns-3
 unfolding rootRight
 returns-3 c =
-    let two = c .before in
-    let d = two .before .before in
-    rw (
-      ← d .depth .ensures,
-      eq-eqb _ _ (two .before .if1 .taken),
-      ← d .before .before .count .ensures,
-      eq-eqb _ _ (two .if2 .left),
-      ← d .before .root .ensures,
-      ne-eqb _ _ (c .if3 .left),
-    )
+    let three = c .before in
+    let two = three .before .before in
+    rw (eq-eqb _ _ (two .before .before .if1 .taken), eq-eqb _ _ (two .if2 .left), ne-eqb _ _ (three .if3 .left))
 
 returns-4 : tie.Need-returns-4
 unfolding rootRight
-returns-4 c =
-    let d = c .before .before in
-    rw (← d .depth .ensures, ne-eqb _ _ (c .before .if1 .left), ← d .before .before .count .ensures, eq-eqb _ _ (c .if4 .taken))
+returns-4 c = rw (ne-eqb _ _ (c .before .before .if1 .left), eq-eqb _ _ (c .if4 .taken))
 
 returns-5 : tie.Need-returns-5
 unfolding rootRight
 returns-5 c =
-    let d = c .before .before in
-    rw (← d .depth .ensures, ne-eqb _ _ (c .before .if1 .left), ← d .before .before .count .ensures, ne-eqb _ _ (c .if4 .left), ← d .before .root .ensures)
+    let four = c .before in
+    rw (ne-eqb _ _ (four .before .before .if1 .left), ne-eqb _ _ (four .if4 .left))
 
 pub root-right-spec : {M : Type 1} → statement M
-root-right-spec =
-    tie.close
-    (tie.spec
-    count-requires
-    root-requires
-    depth-requires
-    returns
-    returns-2
-    returns-3
-    returns-4
-    returns-5)
+root-right-spec = tie.close (tie.spec returns returns-2 returns-3 returns-4 returns-5)
