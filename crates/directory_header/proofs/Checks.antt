@@ -11,13 +11,13 @@ use Rattle.directory_header.specs.declared.DirectoryFields.{DirectoryFie
 use Rattle.directory_header.specs.declared.CheckedDirectoryHeader.the-variants.{Good, Refused}
 
 module _ (d : List ℕ) (n : ℕ) where
-  pub directory-good : directoryTagged d ≡ true → directoryRight d n ≡ true → directoryHeaderOf d n ≡ Good (directoryFieldsOf d)
+  pub directory-good : directoryTagged d ≡ true → directoryRight (directoryFieldsOf d) n ≡ true → directoryHeaderOf d n ≡ Good (directoryFieldsOf d)
   unfolding directoryHeaderOf
   directory-good a b = rw (a, b)
 
-  pub directory-rules : (f : DirectoryFields) → directoryHeaderOf d n ≡ Good f → (f ≡ directoryFieldsOf d) × (directoryRight d n ≡ true)
+  pub directory-rules : (f : DirectoryFields) → directoryHeaderOf d n ≡ Good f → (f ≡ directoryFieldsOf d) × (directoryRight (directoryFieldsOf d) n ≡ true)
   unfolding directoryHeaderOf
-  directory-rules f = go (directoryTagged d) (directoryRight d n)
+  directory-rules f = go (directoryTagged d) (directoryRight (directoryFieldsOf d) n)
     where
       go : (a b : Bool) → cond a (cond b (Good (directoryFieldsOf d)) (Refused 7)) (Refused 6) ≡ Good f → (f ≡ directoryFieldsOf d) × (b ≡ true)
       go true true e = (cc, refl)
@@ -26,7 +26,7 @@ module _ (d : List ℕ) (n : ℕ) where
 
   pub directory-refused : (k : ℕ) → directoryHeaderOf d n ≡ Refused k → (6 ≤ k) × (k ≤ 7)
   unfolding directoryHeaderOf
-  directory-refused k = go (directoryTagged d) (directoryRight d n)
+  directory-refused k = go (directoryTagged d) (directoryRight (directoryFieldsOf d) n)
     where
       go : (a b : Bool) → cond a (cond b (Good (directoryFieldsOf d)) (Refused 7)) (Refused 6) ≡ Refused k → (6 ≤ k) × (k ≤ 7)
       go true true e = absurd (let z : _≡_ {A = ℕ} 0 1 = cc in omega arith)

@@ -11,34 +11,20 @@ use Rattle.directory_header.specs.declared.DirectoryFields.{DirectoryFie
 use Rattle.directory_header.specs.declared.CheckedDirectoryHeader.{CheckedDirectoryHeader}
 use Rattle.directory_header.specs.declared.CheckedDirectoryHeader.the-variants.{Good, Refused}
 
--- ---- its fields
+-- ---- what it says
 
--- FORMAT D6
-abbrev pub chunkSize : List ℕ → ℕ
-chunkSize d = le 4 d 0x10
-
--- FORMAT D7
-abbrev pub densityField : List ℕ → ℕ
-densityField d = le 4 d 0x14
-
--- FORMAT D8
-abbrev pub depthField : List ℕ → ℕ
-depthField d = le 4 d 0x18
-
--- FORMAT D9
-abbrev pub rootField : List ℕ → ℕ
-rootField d = le 4 d 0x1C
-
--- FORMAT D10
-abbrev pub firstField : List ℕ → ℕ
-firstField d = le 4 d 0x20
-
-abbrev pub lastField : List ℕ → ℕ
-lastField d = le 4 d 0x24
-
--- FORMAT D11
-abbrev pub countField : List ℕ → ℕ
-countField d = le 4 d 0x2C
+-- FORMAT D6 to D11
+abbrev pub directoryFieldsOf : List ℕ → DirectoryFields
+directoryFieldsOf d =
+    record {
+      size = le 4 d 0x10;
+      density = le 4 d 0x14;
+      depth = le 4 d 0x18;
+      root = le 4 d 0x1C;
+      first = le 4 d 0x20;
+      last = le 4 d 0x24;
+      count = le 4 d 0x2C;
+    }
 
 -- ---- refusal 6
 
@@ -67,35 +53,30 @@ abbrev pub within : ℕ → ℕ → ℕ → Bool
 within low high x = leb low x && leb x high
 
 -- FORMAT D6, D7, D8, D11
-unfoldable pub boundsRight : List ℕ → Bool
-boundsRight d = eqb (chunkSize d) 4096 && leb (densityField d) 7 && within 1 5 (depthField d) && within 1 4096 (countField d)
+unfoldable pub boundsRight : DirectoryFields → Bool
+boundsRight f = eqb (f .size) 4096 && leb (f .density) 7 && within 1 5 (f .depth) && within 1 4096 (f .count)
 
 -- FORMAT D14: n is the directory's length
-abbrev pub filled : List ℕ → ℕ → Bool
-filled d n = eqb n (84 + 4096 * countField d)
+abbrev pub filled : DirectoryFields → ℕ → Bool
+filled f n = eqb n (84 + 4096 * f .count)
 
 -- FORMAT D15
-unfoldable pub endsRight : List ℕ → Bool
-endsRight d = ltb (firstField d) (countField d) && ltb (lastField d) (countField d)
+unfoldable pub endsRight : DirectoryFields → Bool
+endsRight f = ltb (f .first) (f .count) && ltb (f .last) (f .count)
 
 -- FORMAT D16 to D18: at depth 1 there is one chunk and the root is none, or 0; at any other depth there are more, and the root is one of them
-unfoldable pub rootRight : List ℕ → Bool
-rootRight d =
-    cond (eqb (depthField d) 1)
-    (eqb (countField d) 1 && (eqb (rootField d) noChunk || eqb (rootField d) 0))
-    (not (eqb (countField d) 1) && ltb (rootField d) (countField d))
+unfoldable pub rootRight : DirectoryFields → Bool
+rootRight f =
+    cond (eqb (f .depth) 1)
+    (eqb (f .count) 1 && (eqb (f .root) noChunk || eqb (f .root) 0))
+    (not (eqb (f .count) 1) && ltb (f .root) (f .count))
 
 -- FORMAT R7: D6, D7, D8, D11, D14 to D18
-unfoldable pub directoryRight : List ℕ → ℕ → Bool
-directoryRight d n = boundsRight d && filled d n && endsRight d && rootRight d
+unfoldable pub directoryRight : DirectoryFields → ℕ → Bool
+directoryRight f n = boundsRight f && filled f n && endsRight f && rootRight f
 
 -- ---- the whole
 
--- FORMAT D7 to D11
-abbrev pub directoryFieldsOf : List ℕ → DirectoryFields
-directoryFieldsOf d =
-    record { count = countField d; density = densityField d; depth = depthField d; root = rootField d; first = firstField d; last = lastField d }
-
 -- n is the directory's length (FORMAT RO1, RO4)
 unfoldable pub directoryHeaderOf : List ℕ → ℕ → CheckedDirectoryHeader
-directoryHeaderOf d n = cond (directoryTagged d) (cond (directoryRight d n) (Good (directoryFieldsOf d)) (Refused 7)) (Refused 6)
+directoryHeaderOf d n = cond (directoryTagged d) (cond (directoryRight (directoryFieldsOf d) n) (Good (directoryFieldsOf d)) (Refused 7)) (Refused 6)

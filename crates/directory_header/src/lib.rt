@@ -1,17 +1,18 @@
 // The directory's header: refusals 6 and 7. d is the 84 bytes of the header.
 ghost use mathlib.Core.Path.{_≡_};
-ghost use Rattle.directory_header.specs.DirectoryHeader.{densityField, depthField, rootField, firstField, lastField, countField, within};
-ghost use Rattle.directory_header.specs.DirectoryHeader.{directoryTagged, boundsRight, endsRight, rootRight, directoryRight};
+ghost use Rattle.fields.specs.Le.{le};
+ghost use Rattle.directory_header.specs.DirectoryHeader.{directoryTagged, within, boundsRight, endsRight, rootRight, directoryRight};
 ghost use Rattle.directory_header.specs.DirectoryHeader.{directoryFieldsOf, directoryHeaderOf};
 
-// What the directory's header says: the chunk count, density, depth, root, the first and the last listing chunk.
+// What the directory's header says: the chunk size, density, depth, root, the first and the last listing chunk, the chunk count.
 pub struct DirectoryFields {
-    pub count: u64,
+    pub size: u64,
     pub density: u64,
     pub depth: u64,
     pub root: u64,
     pub first: u64,
     pub last: u64,
+    pub count: u64,
 }
 
 // A directory's header that keeps the rules, or the number of the refusal, 6 or 7.
@@ -20,60 +21,24 @@ pub enum CheckedDirectoryHeader {
     Refused(u8),
 }
 
-// The GUID, as stored.
-const DIRECTORY_GUID: [u8; 16] = [
-    0x6A,
-    0x92,
-    0x02,
-    0x5D,
-    0x2E,
-    0x21,
-    0xD0,
-    0x11,
-    0x9D,
-    0xF9,
-    0x00,
-    0xA0,
-    0xC9,
-    0x22,
-    0xE6,
-    0xEC,
-];
-
-fn density(d: &[u8]) -> u64
-    ensures { λ r. ⌜ r ≡ densityField (now (d .entry)) ⌝ }
+fn word(d: &[u8], at: usize) -> u64
+    ensures { λ r. ⌜ r ≡ le 4 (now (d .entry)) at ⌝ }
 {
-    fields::le32(d, 0x14) as u64
+    fields::le32(d, at) as u64
 }
 
-fn depth(d: &[u8]) -> u64
-    ensures { λ r. ⌜ r ≡ depthField (now (d .entry)) ⌝ }
+fn fields_of(d: &[u8]) -> DirectoryFields
+    ensures { λ r. ⌜ r ≡ directoryFieldsOf (now (d .entry)) ⌝ }
 {
-    fields::le32(d, 0x18) as u64
-}
-
-fn root(d: &[u8]) -> u64
-    ensures { λ r. ⌜ r ≡ rootField (now (d .entry)) ⌝ }
-{
-    fields::le32(d, 0x1C) as u64
-}
-
-fn first(d: &[u8]) -> u64
-    ensures { λ r. ⌜ r ≡ firstField (now (d .entry)) ⌝ }
-{
-    fields::le32(d, 0x20) as u64
-}
-
-fn last(d: &[u8]) -> u64
-    ensures { λ r. ⌜ r ≡ lastField (now (d .entry)) ⌝ }
-{
-    fields::le32(d, 0x24) as u64
-}
-
-fn count(d: &[u8]) -> u64
-    ensures { λ r. ⌜ r ≡ countField (now (d .entry)) ⌝ }
-{
-    fields::le32(d, 0x2C) as u64
+    DirectoryFields {
+        size: word(d, 0x10),
+        density: word(d, 0x14),
+        depth: word(d, 0x18),
+        root: word(d, 0x1C),
+        first: word(d, 0x20),
+        last: word(d, 0x24),
+        count: word(d, 0x2C),
+    }
 }
 
 // Refusal 6: the directory's tag, its version, the header length at both places, and the GUID.
@@ -89,7 +54,11 @@ fn directory_tagged(d: &[u8]) -> bool
     if fields::le32(d, 0x08) != 0x54 {
         return false;
     }
-    if !fields::stands_at(d, 0x34, &DIRECTORY_GUID) {
+    if !fields::stands_at(
+        d,
+        0x34,
+        b"\x6A\x92\x02\x5D\x2E\x21\xD0\x11\x9D\xF9\x00\xA0\xC9\x22\xE6\xEC",
+    ) {
         return false;
     }
     fields::le32(d, 0x44) == 0x54
@@ -106,80 +75,64 @@ fn is_within(low: u64, high: u64, x: u64) -> bool
 }
 
 // Chunk size, density, depth and count.
-fn bounds_right(d: &[u8]) -> bool
-    ensures { λ r. ⌜ r ≡ boundsRight (now (d .entry)) ⌝ }
+fn bounds_right(f: DirectoryFields) -> bool
+    ensures { λ r. ⌜ r ≡ boundsRight f ⌝ }
 {
-    if fields::le32(d, 0x10) != 4096 {
+    if f.size != 4096 {
         return false;
     }
-    if 7 < density(d) {
+    if 7 < f.density {
         return false;
     }
-    if !is_within(1, 5, depth(d)) {
+    if !is_within(1, 5, f.depth) {
         return false;
     }
-    is_within(1, 4096, count(d))
+    is_within(1, 4096, f.count)
 }
 
 // The first and the last listing chunk.
-fn ends_right(d: &[u8]) -> bool
-    ensures { λ r. ⌜ r ≡ endsRight (now (d .entry)) ⌝ }
+fn ends_right(f: DirectoryFields) -> bool
+    ensures { λ r. ⌜ r ≡ endsRight f ⌝ }
 {
-    let n = count(d);
-    if n <= first(d) {
+    if f.count <= f.first {
         return false;
     }
-    last(d) < n
+    f.last < f.count
 }
 
 // The root, by depth and count.
-fn root_right(d: &[u8]) -> bool
-    ensures { λ r. ⌜ r ≡ rootRight (now (d .entry)) ⌝ }
+fn root_right(f: DirectoryFields) -> bool
+    ensures { λ r. ⌜ r ≡ rootRight f ⌝ }
 {
-    let n = count(d);
-    let top = root(d);
-    if depth(d) == 1 {
-        if n != 1 {
+    if f.depth == 1 {
+        if f.count != 1 {
             return false;
         }
-        if top == refusals::no_chunk() as u64 {
+        if f.root == refusals::no_chunk() as u64 {
             return true;
         }
-        return top == 0;
+        return f.root == 0;
     }
-    if n == 1 {
+    if f.count == 1 {
         return false;
     }
-    top < n
+    f.root < f.count
 }
 
-// Refusal 7: the numbers of the directory's header, with the directory's length n.
-fn directory_right(d: &[u8], n: u64) -> bool
-    ensures { λ r. ⌜ r ≡ directoryRight (now (d .entry)) n ⌝ }
+// Refusal 7: what the header says, with the directory's length n.
+fn directory_right(f: DirectoryFields, n: u64) -> bool
+    ensures { λ r. ⌜ r ≡ directoryRight f n ⌝ }
 {
-    if !bounds_right(d) {
+    if !bounds_right(f) {
         return false;
     }
-    if n != 84 + 4096 * count(d) {
+    if n != 84 + 4096 * f.count {
         return false;
     }
-    if !ends_right(d) {
+    if !ends_right(f) {
         return false;
     }
-    root_right(d)
-}
-
-fn fields_of(d: &[u8]) -> DirectoryFields
-    ensures { λ r. ⌜ r ≡ directoryFieldsOf (now (d .entry)) ⌝ }
-{
-    DirectoryFields {
-        count: count(d),
-        density: density(d),
-        depth: depth(d),
-        root: root(d),
-        first: first(d),
-        last: last(d),
-    }
+    root_right(f)
 }
 
 // The checks 6 and 7, then what the header says. n is the directory's length.
@@ -189,8 +142,9 @@ pub fn check(d: &[u8], n: u64) -> CheckedDirectoryHeader
     if !directory_tagged(d) {
         return CheckedDirectoryHeader::Refused(6);
     }
-    if !directory_right(d, n) {
+    let f = fields_of(d);
+    if !directory_right(f, n) {
         return CheckedDirectoryHeader::Refused(7);
     }
-    CheckedDirectoryHeader::Good(fields_of(d))
+    CheckedDirectoryHeader::Good(f)
 }

@@ -29,45 +29,6 @@ pub enum CheckedSectionZero {
     Refused(u8),
 }
 
-// The two GUIDs, as stored.
-const FIRST_GUID: [u8; 16] = [
-    0x10,
-    0xFD,
-    0x01,
-    0x7C,
-    0xAA,
-    0x7B,
-    0xD0,
-    0x11,
-    0x9E,
-    0x0C,
-    0x00,
-    0xA0,
-    0xC9,
-    0x22,
-    0xE6,
-    0xEC,
-];
-
-const SECOND_GUID: [u8; 16] = [
-    0x11,
-    0xFD,
-    0x01,
-    0x7C,
-    0xAA,
-    0x7B,
-    0xD0,
-    0x11,
-    0x9E,
-    0x0C,
-    0x00,
-    0xA0,
-    0xC9,
-    0x22,
-    0xE6,
-    0xEC,
-];
-
 fn version(h: &[u8]) -> u64
     ensures { λ r. ⌜ r ≡ versionField (now (h .entry)) ⌝ }
 {
@@ -134,10 +95,18 @@ fn file_tagged(h: &[u8]) -> bool
     if !fields::stands_at(h, 0x00, b"ITSF") {
         return false;
     }
-    if !fields::stands_at(h, 0x18, &FIRST_GUID) {
+    if !fields::stands_at(
+        h,
+        0x18,
+        b"\x10\xFD\x01\x7C\xAA\x7B\xD0\x11\x9E\x0C\x00\xA0\xC9\x22\xE6\xEC",
+    ) {
         return false;
     }
-    fields::stands_at(h, 0x28, &SECOND_GUID)
+    fields::stands_at(
+        h,
+        0x28,
+        b"\x11\xFD\x01\x7C\xAA\x7B\xD0\x11\x9E\x0C\x00\xA0\xC9\x22\xE6\xEC",
+    )
 }
 
 // Refusal 3: the version, and the header length that goes with it.

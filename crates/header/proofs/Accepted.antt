@@ -34,10 +34,10 @@ pub record Accepted (s : List ℕ) (r : Record) : Type 0 where
   pub content : r .content ≤ length s
 
 -- of a file header h and a directory's header d
-rules-accepted : (s h d : List ℕ) → FileRules h (length s) → directoryRight d (directoryLength h) ≡ true → Accepted s (recordFrom (fileFieldsOf h) (directoryFieldsOf d))
+rules-accepted : (s h d : List ℕ) → FileRules h (length s) → directoryRight (directoryFieldsOf d) (directoryLength h) ≡ true → Accepted s (recordFrom (fileFieldsOf h) (directoryFieldsOf d))
 rules-accepted s h d rules right =
     let p = sections-told h (length s) (rules .sections) in
-    let n = directory-told d (directoryLength h) right in
+    let n = directory-told (directoryFieldsOf d) (directoryLength h) right in
     let b = n .bounds in
     record {
       count-low = b .count-low;
@@ -62,4 +62,4 @@ accepted s r e =
     let a = file-rules h (length s) (t .f) (t .file) in
     let b = directory-rules d (t .f .length) (t .d) (t .directory) in
     subst (Accepted s) (ap₂ recordFrom (sym (a .0)) (sym (b .0)) ∙ t .is)
-    (rules-accepted s h d (a .1) (ap (λ (f : FileFields). directoryRight d (f .length)) (sym (a .0)) ∙ b .1))
+    (rules-accepted s h d (a .1) (ap (λ (f : FileFields). directoryRight (directoryFieldsOf d) (f .length)) (sym (a .0)) ∙ b .1))

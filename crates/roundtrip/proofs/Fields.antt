@@ -10,7 +10,7 @@ use Rattle.fields.specs.Le.{le, bytes}
 use Rattle.fields.specs.Same.{same, standsAt}
 use Rattle.fields.proofs.Le.{le-bytes}
 use Rattle.file_header.specs.FileHeader.{fileTagged, versionField, headerEnd, timeField, languageField, sectionStart, sectionLength, directoryStart, directoryLength}
-use Rattle.directory_header.specs.DirectoryHeader.{directoryTagged, chunkSize, densityField, depthField, rootField, firstField, lastField, countField}
+use Rattle.directory_header.specs.DirectoryHeader.{directoryTagged, directoryFieldsOf}
 use Rattle.layout.specs.Headers.{headLength, fileHeader, sectionZero, directoryHeader}
 
 -- the number whose k bytes stand in s at `at`
@@ -60,13 +60,13 @@ section-read size h = field 8 size (sectionZero size) 0x08 (omega arith) refl re
 -- density, depth, root, last listing chunk, number of chunks
 pub record DirectoryRead (y p r e n : ℕ) (d : List ℕ) : Type 0 where
   pub tagged : directoryTagged d ≡ true
-  pub size : chunkSize d ≡ 4096
-  pub density : densityField d ≡ y
-  pub depth : depthField d ≡ p
-  pub root : rootField d ≡ r
-  pub first : firstField d ≡ 0
-  pub last : lastField d ≡ e
-  pub count : countField d ≡ n
+  pub size : directoryFieldsOf d .size ≡ 4096
+  pub density : directoryFieldsOf d .density ≡ y
+  pub depth : directoryFieldsOf d .depth ≡ p
+  pub root : directoryFieldsOf d .root ≡ r
+  pub first : directoryFieldsOf d .first ≡ 0
+  pub last : directoryFieldsOf d .last ≡ e
+  pub count : directoryFieldsOf d .count ≡ n
 
 pub directory-read : (g y p r e n : ℕ) → y < 2 ^ 32 → p < 2 ^ 32 → r < 2 ^ 32 → e < 2 ^ 32 → n < 2 ^ 32
     → DirectoryRead y p r e n (directoryHeader g y p r e n)

@@ -10,7 +10,7 @@ use lib.Dec.{ltb, eqb}
 use borrow.Author.Tests.{le-leb, lt-ltb, eq-eqb, ne-eqb}
 use Rattle.refusals.specs.Refusals.{noChunk}
 use Rattle.file_header.specs.FileHeader.{versionRight, lengthsRight, placesRight, contentRight, sectionsRight}
-use Rattle.directory_header.specs.DirectoryHeader.{boundsRight, endsRight, rootRight, directoryRight}
+use Rattle.directory_header.specs.DirectoryHeader.{boundsRight, endsRight, rootRight, directoryRight, directoryFieldsOf}
 use Rattle.layout.specs.Headers.{headLength}
 use Rattle.layout.specs.Layout.{rootOf}
 use Rattle.roundtrip.proofs.Fields.{FileRead, DirectoryRead}
@@ -39,7 +39,7 @@ root-pass p n one more =
     ]
 
 pub directory-pass : (y p e n : ℕ) (d : List ℕ) → DirectoryRead y p (rootOf p n) e n d → y ≤ 7 → 1 ≤ p → p ≤ 5 → n ≤ 4096 → e < n
-    → (p ≡ 1 → n ≡ 1) → (¬ (p ≡ 1) → 1 < n) → directoryRight d (84 + 4096 * n) ≡ true
+    → (p ≡ 1 → n ≡ 1) → (¬ (p ≡ 1) → 1 < n) → directoryRight (directoryFieldsOf d) (84 + 4096 * n) ≡ true
 unfolding directoryRight boundsRight endsRight rootRight
 directory-pass y p e n d f a b c i j one more =
     simp

@@ -6,24 +6,13 @@ use Rattle.directory_header.specs.DirectoryHeader.{boundsRight}
 use Rattle.directory_header.proofs.bounds_right.Statement.{statement}
 use Rattle.directory_header.proofs.bounds_right.Tie as tie
 
-le32-requires : tie.Need-le32-requires
-le32-requires c κs = search needs
-
 returns : tie.Need-returns
 unfolding boundsRight
-returns c = rw (← c .before .le32 .ensures, ne-eqb _ _ (c .if1 .taken))
-
-density-requires : tie.Need-density-requires
-density-requires c κs = search needs
+returns c = rw (ne-eqb _ _ (c .if1 .taken))
 
 returns-2 : tie.Need-returns-2
 unfolding boundsRight
-returns-2 c =
-    let one = c .before .before in
-    rw (← one .before .le32 .ensures, eq-eqb _ _ (one .if1 .left), ← c .before .density .ensures, lt-leb _ _ (c .if2 .taken))
-
-depth-requires : tie.Need-depth-requires
-depth-requires c κs = search needs
+returns-2 c = rw (eq-eqb _ _ (c .before .before .if1 .left), lt-leb _ _ (c .if2 .taken))
 
 is-within-requires : tie.Need-is-within-requires
 is-within-requires c κs = search needs
@@ -31,19 +20,8 @@ is-within-requires c κs = search needs
 returns-3 : tie.Need-returns-3
 unfolding boundsRight
 returns-3 c =
-    let two = c .before .before .before in
-    let one = two .before .before in
-    rw (
-      ← one .before .le32 .ensures,
-      eq-eqb _ _ (one .if1 .left),
-      ← two .before .density .ensures,
-      le-leb _ _ (two .if2 .left),
-      ← c .before .before .depth .ensures,
-      failed (c .before .is-within .ensures) (c .if3 .taken),
-    )
-
-count-requires : tie.Need-count-requires
-count-requires c κs = search needs
+    let two = c .before .before in
+    rw (eq-eqb _ _ (two .before .before .if1 .left), le-leb _ _ (two .if2 .left), failed (c .before .is-within .ensures) (c .if3 .taken))
 
 is-within-requires-2 : tie.Need-is-within-requires-2
 is-within-requires-2 c κs = search needs
@@ -51,30 +29,11 @@ is-within-requires-2 c κs = search needs
 returns-4 : tie.Need-returns-4
 unfolding boundsRight
 returns-4 c =
-    let three = c .before .before in
-    let two = three .before .before .before in
-    let one = two .before .before in
-    rw (
-      ← one .before .le32 .ensures,
-      eq-eqb _ _ (one .if1 .left),
-      ← two .before .density .ensures,
-      le-leb _ _ (two .if2 .left),
-      ← three .before .before .depth .ensures,
-      held (three .before .is-within .ensures) (three .if3 .left),
-      ← c .before .count .ensures,
-    ) (c .is-within2 .ensures)
+    let three = c .before in
+    let two = three .before .before in
+    rw (eq-eqb _ _ (two .before .before .if1 .left), le-leb _ _ (two .if2 .left), held (three .before .is-within .ensures) (three .if3 .left))
+    (c .is-within2 .ensures)
 
 pub bounds-right-spec : {M : Type 1} → statement M
 bounds-right-spec =
-    tie.close
-    (tie.spec
-    le32-requires
-    returns
-    density-requires
-    returns-2
-    depth-requires
-    is-within-requires
-    returns-3
-    count-requires
-    is-within-requires-2
-    returns-4)
+    tie.close (tie.spec returns returns-2 is-within-requires returns-3 is-within-requires-2 returns-4)

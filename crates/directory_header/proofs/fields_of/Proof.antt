@@ -3,23 +3,26 @@ use borrow.Author.Needs.{needs}
 use Rattle.directory_header.proofs.fields_of.Statement.{statement}
 use Rattle.directory_header.proofs.fields_of.Tie as tie
 
-count-requires : tie.Need-count-requires
-count-requires c κs = search needs
+word-requires : tie.Need-word-requires
+word-requires c κs = search needs
 
-density-requires : tie.Need-density-requires
-density-requires c κs = search needs
+word-requires-2 : tie.Need-word-requires-2
+word-requires-2 c κs = search needs
 
-depth-requires : tie.Need-depth-requires
-depth-requires c κs = search needs
+word-requires-3 : tie.Need-word-requires-3
+word-requires-3 c κs = search needs
 
-root-requires : tie.Need-root-requires
-root-requires c κs = search needs
+word-requires-4 : tie.Need-word-requires-4
+word-requires-4 c κs = search needs
 
-first-requires : tie.Need-first-requires
-first-requires c κs = search needs
+word-requires-5 : tie.Need-word-requires-5
+word-requires-5 c κs = search needs
 
-last-requires : tie.Need-last-requires
-last-requires c κs = search needs
+word-requires-6 : tie.Need-word-requires-6
+word-requires-6 c κs = search needs
+
+word-requires-7 : tie.Need-word-requires-7
+word-requires-7 c κs = search needs
 
 returns : tie.Need-returns
 returns c = cc
@@ -28,10 +31,11 @@ pub fields-of-spec : {M : Type 1} → statement M
 fields-of-spec =
     tie.close
     (tie.spec
-    count-requires
-    density-requires
-    depth-requires
-    root-requires
-    first-requires
-    last-requires
+    word-requires
+    word-requires-2
+    word-requires-3
+    word-requires-4
+    word-requires-5
+    word-requires-6
+    word-requires-7
     returns)
