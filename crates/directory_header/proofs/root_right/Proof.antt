@@ -19,14 +19,14 @@ cast-if3 c = search needs
 returns-2 : tie.Need-returns-2
 unfolding rootRight
 returns-2 c =
-    let two = c .before .before .before .before in
+    let two = c .before .before .before in
     rw (eq-eqb _ _ (two .before .before .if1 .taken), eq-eqb _ _ (two .if2 .left), eq-eqb _ noChunk (c .if3 .taken ∙ c .before .before .no-chunk .ensures))
 
 returns-3 : tie.Need-returns-3
 unfolding rootRight
 returns-3 c =
     let three = c .before in
-    let two = three .before .before .before .before in
+    let two = three .before .before .before in
     rw (
       eq-eqb _ _ (two .before .before .if1 .taken),
       eq-eqb _ _ (two .if2 .left),
