@@ -14,7 +14,7 @@ use Rattle.numbers.specs.Numbers.{refusalCode}
 
 -- ---- a cursor as fourteen numbers: two walks in the order of their fields, then the totals
 
-unfoldable pub walksIn : List ℕ → Cursor
+abbrev pub walksIn : List ℕ → Cursor
 walksIn n =
     record {
       first = record { chunk = getD n 0 0; at = getD n 1 0; left = getD n 2 0; next = getD n 3 0; more = getD n 4 0 };

@@ -1,5 +1,5 @@
 use borrow.Author.Needs.{needs}
-use mathlib.Core.Path.{refl, ap, _∙_}
+use mathlib.Core.Path.{ap, _∙_}
 use Rattle.compare.specs.declared.Shown.{Shown}
 use Rattle.differences.specs.Differences.{fifteenOf}
 use Rattle.differences.proofs.tell_comparison.Statement.{statement}
