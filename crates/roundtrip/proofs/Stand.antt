@@ -6,15 +6,14 @@ use mathlib.Core.List.{List, [], _∷_, _++_}
 use Prim.Native.Nat.{ℕ, suc, _+_, _<_}
 use native.Mathlib.Omega.{arith}
 use lib.ListN.{length, getD}
-use Rattle.encint.specs.Encint.{encoded}
 use Rattle.names.specs.Names.{below}
-use Rattle.chunk.specs.Chunk.{Entry, Parsed}
+use Rattle.chunk.specs.Chunk.{Parsed}
 use Rattle.seek.specs.Seek.{Sought, absent, found, nth, nameIn, final}
 use Rattle.entries.proofs.Rising.{rising-more}
 use Rattle.entries.specs.Rising.{rising}
 use Rattle.entries.specs.Stored.{Stored, storedName}
 use Rattle.pack.specs.Levels.{entrySize, firstName}
-use Rattle.compose.proofs.Placed.{placedFrom, newParsed}
+use Rattle.compose.proofs.Placed.{placed, placedFrom, newParsed}
 use Rattle.layout.specs.Layout.{prevOf, nextOf}
 
 -- what the entries of chunk c mean: in one of m listing chunks, and in an index chunk
@@ -46,20 +45,6 @@ module _ (D : ℕ → Parsed) (f : ℕ → List Stored → Parsed) where
   stand-right c (g ∷ a) b s = subst (λ (x : ℕ). Stand x b) (omega arith) (stand-right (c + 1) a b (s .1))
 
 -- ---- names
-
--- an entry at a place of its chunk
-abbrev placed : Bool → ℕ → Stored → Entry
-placed k at e =
-    record {
-      at = at;
-      start = at + length (encoded (length (e .name)));
-      name = e .name;
-      section = e .section;
-      offset = e .offset;
-      size = e .size;
-      child = e .child;
-      next = at + entrySize k e;
-    }
 
 module _ (k : Bool) where
   pub placed-first : (at : ℕ) (g : List Stored) → nameIn (nth 0 (placedFrom k at g)) ≡ firstName g
