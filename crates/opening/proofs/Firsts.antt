@@ -1,59 +1,31 @@
 -- The first and the last entry of a good chunk: they are there, lie inside its bytes, and have its first and its last name.
 -- Assumes nothing.
-use mathlib.Core.Path.{_≡_, refl, sym, ap, subst, _∙_}
-use mathlib.Core.Bool.{Bool, true, false, cond, _||_}
+use mathlib.Core.Path.{_≡_, refl, sym, ap, subst}
+use mathlib.Core.Bool.{Bool, true}
 use mathlib.Core.List.{List, [], _∷_}
-use Prim.Native.Nat.{ℕ, zero, suc, _+_, _-_, _/_, _%_, _≤_, _<_}
+use Prim.Native.Nat.{ℕ, _+_, _-_, _≤_, _<_}
 use native.Mathlib.Omega.{arith}
 use lib.ListN.{length}
-use lib.Dec.{ltb}
-use Rattle.entries.specs.Entry.{itemAt, nameOf}
+use Rattle.entries.specs.Entry.{nameOf}
 use Rattle.entries.specs.declared.Limits.{Limits}
 use Rattle.entries.specs.declared.Place.{Place}
-use Rattle.entries.specs.declared.Item.{Item}
-use Rattle.entries.specs.declared.Item.the-variants.{Good, Bad}
 use Rattle.entries.proofs.Laws.{item-inside}
-use Rattle.chunk.specs.Chunk.{Entry, tagOf, withItem, entryOf, headOf, countOf, tailOf, spacingOf, parsed, entriesIn, isKind}
+use Rattle.chunk.specs.Chunk.{Entry, tagOf, headOf, countOf, tailOf, parsed, entriesIn, isKind}
 use Rattle.chunk.proofs.Accepted.{accepted, entries-count}
-use Rattle.seek.specs.Seek.{Sought, absent, found, nth, nameIn, final, soughtOf, afterAt, groupAt, nthIn, firstIn, lastIn}
+use Rattle.seek.specs.Seek.{Sought, absent, found, nth, nameIn, final, soughtOf, nthIn, firstIn, lastIn}
 use Rattle.seek.specs.declared.Hit.{Hit}
 use Rattle.seek.specs.declared.Hit.the-variants.{At, Nothing}
 use Rattle.seek.proofs.Good.{nth-good, last-good}
 use Rattle.header.specs.declared.Record.{Record}
 use Rattle.book.specs.Book.{limitsOf, chunkBytes, directoryOf}
+use Rattle.book.proofs.Read.{nth-read}
 use Rattle.opening.specs.Passes.{GoodBook, FirstHit}
 use Rattle.opening.proofs.Tags.{kind-true}
 use Rattle.fields.specs.Same.{standsAt}
 
--- ---- what a walk over places gives lies inside
-
-no-hit : {e : Place} {A : Type 0} → Nothing ≡ At e → A
-no-hit q = absurd (let z : _≡_ {A = ℕ} 0 1 = cc in omega arith)
-
-after-inside : (limits : Limits) (k : Bool) (s : List ℕ) (j at : ℕ) (e : Place) → afterAt limits k s j at ≡ At e → e .start + e .len ≤ length s
-unfolding afterAt
-after-inside limits k s zero at e q = here (itemAt limits k s at) refl q
-  where
-    here : (i : Item) → itemAt limits k s at ≡ i → withItem i Nothing (λ p. At p) ≡ At e → e .start + e .len ≤ length s
-    here Bad g d = no-hit d
-    here (Good p) g d = let z : p ≡ e = cc in subst (λ (x : Place). x .start + x .len ≤ length s) z (item-inside limits k s at p g .name)
-after-inside limits k s (suc j) at e q = on (itemAt limits k s at) (λ p. after-inside limits k s j (p .next) e) q
-  where
-    on : (i : Item) → ((p : Place) → afterAt limits k s j (p .next) ≡ At e → e .start + e .len ≤ length s)
-        → withItem i Nothing (λ p. afterAt limits k s j (p .next)) ≡ At e → e .start + e .len ≤ length s
-    on Bad f d = no-hit d
-    on (Good p) f d = f p d
-
-pub nth-inside : (limits : Limits) (k : Bool) (s : List ℕ) (i : ℕ) (e : Place) → nthIn limits k s i ≡ At e → e .start + e .len ≤ length s
-unfolding nthIn
-nth-inside limits k s i e q = go (ltb i (countOf s)) q
-  where
-    n : ℕ
-    n = spacingOf (limits .density)
-
-    go : (t : Bool) → cond t (afterAt limits k s (i % n) (groupAt k s (i / n))) Nothing ≡ At e → e .start + e .len ≤ length s
-    go true d = after-inside limits k s (i % n) (groupAt k s (i / n)) e d
-    go false d = no-hit d
+-- an entry that was found lies inside
+nth-inside : (limits : Limits) (k : Bool) (s : List ℕ) (i : ℕ) (e : Place) → nthIn limits k s i ≡ At e → e .start + e .len ≤ length s
+nth-inside limits k s i e q = let r = nth-read limits k s i e q in item-inside limits k s (r .1) e (r .2) .name
 
 -- ---- a chunk with entries has a first and a last one
 
