@@ -1,7 +1,7 @@
--- A chunk that has its 4,096 bytes lies inside the file, and what was read in it is reported as its entry says; a record that can be asked has few chunks and
--- levels.
+-- A chunk that has its 4,096 bytes lies inside the file, and what was read in it is reported as its entry says; what a
+-- record that can be asked has.
 -- Assumes nothing.
-use mathlib.Core.Path.{_≡_, sym, ap, _∙_}
+use mathlib.Core.Path.{_≡_, refl, sym, ap, _∙_}
 use mathlib.Core.Bool.{Bool, true, _&&_}
 use mathlib.Core.List.{List}
 use Prim.Native.Nat.{ℕ, _+_, _≤_, _<_}
@@ -73,14 +73,42 @@ module _ (s : List ℕ) (r : Record) (c : ℕ) where
         | no h ↦ rw (part-outside s (chunkPlace r c) 4096 (omega arith)) (lit< tt)
       ]
 
--- a record that can be asked has few chunks and levels
-pub fits-told : (s : List ℕ) (book : Record) → bookFits s book ≡ true → (book .count ≤ 4096) × (1 ≤ book .depth) × (book .depth ≤ 5)
+-- ---- a record that can be asked
+
+pub record RecordFits (s : List ℕ) (r : Record) : Type 0 where
+  pub dense : r .density ≤ 7
+  pub some-levels : 1 ≤ r .depth
+  pub few-levels : r .depth ≤ 5
+  pub some-chunks : 1 ≤ r .count
+  pub few-chunks : r .count ≤ 4096
+  pub content-inside : r .content ≤ length s
+
+pub fits-told : (s : List ℕ) (r : Record) → bookFits s r ≡ true → RecordFits s r
 unfolding bookFits
-fits-told s book h =
-    let levels = within 1 5 (book .depth) in
-    let chunks = within 1 4096 (book .count) in
-    let inside = leb (book .content) (length s) in
-    let a = and-both levels (chunks && inside) (and-both (leb (book .density) 7) (levels && (chunks && inside)) h .1) in
-    let b = and-both (leb 1 (book .depth)) (leb (book .depth) 5) (a .0) in
-    let c = and-both (leb 1 (book .count)) (leb (book .count) 4096) (and-both chunks inside (a .1) .0) in
-    (leb-true (book .count) 4096 (c .1), leb-true 1 (book .depth) (b .0), leb-true (book .depth) 5 (b .1))
+fits-told s r h =
+    let levels = within 1 5 (r .depth) in
+    let chunks = within 1 4096 (r .count) in
+    let inside = leb (r .content) (length s) in
+    let d = and-both (leb (r .density) 7) (levels && (chunks && inside)) h in
+    let a = and-both levels (chunks && inside) (d .1) in
+    let e = and-both chunks inside (a .1) in
+    let b = and-both (leb 1 (r .depth)) (leb (r .depth) 5) (a .0) in
+    let c = and-both (leb 1 (r .count)) (leb (r .count) 4096) (e .0) in
+    record {
+      dense = leb-true (r .density) 7 (d .0);
+      some-levels = leb-true 1 (r .depth) (b .0);
+      few-levels = leb-true (r .depth) 5 (b .1);
+      some-chunks = leb-true 1 (r .count) (c .0);
+      few-chunks = leb-true (r .count) 4096 (c .1);
+      content-inside = leb-true (r .content) (length s) (e .1);
+    }
+
+pub fits-made : (s : List ℕ) (r : Record) → RecordFits s r → bookFits s r ≡ true
+unfolding bookFits
+fits-made s r f =
+    simp (le-leb (r .density) 7 (f .dense), le-leb 1 (r .depth) (f .some-levels), le-leb (r .depth) 5 (f .few-levels), le-leb 1 (r .count) (f .some-chunks), le-leb (r .count) 4096 (f .few-chunks), le-leb (r .content) (length s) (f .content-inside))
+
+-- of the file only its length counts
+pub fits-same : (s t : List ℕ) (r : Record) → length s ≡ length t → bookFits s r ≡ bookFits t r
+unfolding bookFits
+fits-same s t r h = rw h refl

@@ -4,9 +4,10 @@ use mathlib.Core.Path.{_≡_, refl, sym, ap, _∙_}
 use mathlib.Core.Logic.{inl, inr}
 use mathlib.Core.Bool.{Bool, true, false, cond, not, _&&_}
 use mathlib.Core.List.{List, [], _∷_}
-use Prim.Native.Nat.{ℕ}
+use Prim.Native.Nat.{ℕ, _<_}
 use native.Mathlib.Omega.{arith}
 use lib.Dec.{ltb}
+use borrow.Author.Tests.{lt-ltb}
 use types.Run.{OneOf}
 use denote.Enum.Declared.{tagOf}
 use Rattle.chunk.specs.Chunk.{Parsed, bad, listing, index, isKind}
@@ -19,7 +20,7 @@ use Rattle.tree.specs.Shape.{isListing, previousOf, nextOf, listingChunk, index
 use Rattle.book.specs.Book.{directoryOf, shapeOf, metChunk}
 
 -- the answer is a chunk of the kind k
-abbrev pub isOf : Bool → Chunk → Bool
+abbrev isOf : Bool → Chunk → Bool
 isOf k (Refused n) = false
 isOf k (Listing p n) = k
 isOf k Index = not k
@@ -44,12 +45,23 @@ linked-of true (listing x y es) a b e = (refl, cc, cc)
 linked-of true (index es) a b e = absurd (let z : _≡_ {A = ℕ} 0 1 = cc in omega arith)
 linked-of false p a b e = absurd (let z : _≡_ {A = ℕ} 0 1 = cc in omega arith)
 
+-- an answer that is no listing chunk, and one that is no index chunk
+not-listing : (x : Chunk) → OneOf (0 ∷ 2 ∷ []) (tagOf chunk-type.the-type x) → isOf true x ≡ false
+not-listing (Refused n) h = refl
+not-listing (Listing p n) h = elim h [ inl e ↦ absurd (omega arith) | inr e ↦ absurd (omega arith) ]
+not-listing Index h = refl
+
+not-index : (x : Chunk) → OneOf (0 ∷ 1 ∷ []) (tagOf chunk-type.the-type x) → isOf false x ≡ false
+not-index (Refused n) h = refl
+not-index (Listing p n) h = refl
+not-index Index h = elim h [ inl e ↦ absurd (omega arith) | inr e ↦ absurd (omega arith) ]
+
 module _ (s : List ℕ) (book : Record) (c : ℕ) where
-  pub listing-is : listingChunk (directoryOf s book) (shapeOf book) c ≡ isOf true (metChunk s book c)
+  listing-is : listingChunk (directoryOf s book) (shapeOf book) c ≡ isOf true (metChunk s book c)
   unfolding listingChunk metChunk
   listing-is = sym (of-met true (ltb c (book .count)) (directoryOf s book c))
 
-  pub index-is : indexChunk (directoryOf s book) (shapeOf book) c ≡ isOf false (metChunk s book c)
+  index-is : indexChunk (directoryOf s book) (shapeOf book) c ≡ isOf false (metChunk s book c)
   unfolding indexChunk metChunk
   index-is = sym (of-met false (ltb c (book .count)) (directoryOf s book c))
 
@@ -66,20 +78,25 @@ module _ (s : List ℕ) (book : Record) (c : ℕ) where
       let l = linked-of (ltb c (book .count)) (directoryOf s book c) a b e in
       record { below = listing-is ∙ ap (isOf true) e; kind = l .0; previous-is = l .1; next-is = l .2 }
 
-  -- or an index chunk, or none
-  pub met-index : metChunk s book c ≡ Index → listingChunk (directoryOf s book) (shapeOf book) c ≡ false
-  met-index e = listing-is ∙ ap (isOf true) e
+  -- or an index chunk,
+  pub met-index : metChunk s book c ≡ Index
+      → (indexChunk (directoryOf s book) (shapeOf book) c ≡ true) × (listingChunk (directoryOf s book) (shapeOf book) c ≡ false)
+  met-index e = (index-is ∙ ap (isOf false) e, listing-is ∙ ap (isOf true) e)
 
-  pub met-refused : (n : ℕ) → metChunk s book c ≡ Refused n → listingChunk (directoryOf s book) (shapeOf book) c ≡ false
-  met-refused n e = listing-is ∙ ap (isOf true) e
+  -- or of no kind
+  pub met-refused : (n : ℕ) → metChunk s book c ≡ Refused n
+      → (indexChunk (directoryOf s book) (shapeOf book) c ≡ false) × (listingChunk (directoryOf s book) (shapeOf book) c ≡ false)
+  met-refused n e = (index-is ∙ ap (isOf false) e, listing-is ∙ ap (isOf true) e)
 
--- an answer that is no listing chunk, and one that is no index chunk
-pub not-listing : (x : Chunk) → OneOf (0 ∷ 2 ∷ []) (tagOf chunk-type.the-type x) → isOf true x ≡ false
-not-listing (Refused n) h = refl
-not-listing (Listing p n) h = elim h [ inl e ↦ absurd (omega arith) | inr e ↦ absurd (omega arith) ]
-not-listing Index h = refl
+  -- the same of an answer x where only one kind was looked for
+  module _ (x : Chunk) (e : x ≡ metChunk s book c) where
+    pub met-no-listing : OneOf (0 ∷ 2 ∷ []) (tagOf chunk-type.the-type x) → listingChunk (directoryOf s book) (shapeOf book) c ≡ false
+    met-no-listing h = listing-is ∙ (ap (isOf true) (sym e) ∙ not-listing x h)
 
-pub not-index : (x : Chunk) → OneOf (0 ∷ 1 ∷ []) (tagOf chunk-type.the-type x) → isOf false x ≡ false
-not-index (Refused n) h = refl
-not-index (Listing p n) h = refl
-not-index Index h = elim h [ inl e ↦ absurd (omega arith) | inr e ↦ absurd (omega arith) ]
+    pub met-no-index : OneOf (0 ∷ 1 ∷ []) (tagOf chunk-type.the-type x) → indexChunk (directoryOf s book) (shapeOf book) c ≡ false
+    met-no-index h = index-is ∙ (ap (isOf false) (sym e) ∙ not-index x h)
+
+  -- below the count it is what the chunk means
+  pub met-inside : c < book .count → metChunk s book c ≡ chunkOf (directoryOf s book c)
+  unfolding metChunk
+  met-inside l = rw (lt-ltb c (book .count) l)

@@ -1,23 +1,29 @@
 -- The entries of a listing chunk that passed its check, as they are read: their count, each behind the one before it, and what is reported of them.
 -- Assumes nothing.
-use mathlib.Core.Path.{_≡_, sym, ap, _∙_}
-use mathlib.Core.Bool.{true}
+use mathlib.Core.Path.{_≡_, refl, sym, ap, _∙_}
+use mathlib.Core.Bool.{Bool, true, false, cond}
 use mathlib.Core.List.{List, _∷_}
-use Prim.Native.Nat.{ℕ, zero, suc, _+_, _-_, _≤_, _<_}
+use Prim.Native.Nat.{ℕ, zero, suc, _+_, _-_, _/_, _%_, _≤_, _<_}
 use native.Mathlib.Omega.{arith}
 use lib.ListN.{length, getD, drop}
 use lib.Seq.{drop-drop}
+use lib.Dec.{ltb}
+use borrow.Author.Tests.{ltb-true}
 use Rattle.fields.specs.Part.{part, partOf}
 use Rattle.fields.proofs.Parts.{length-part}
 use Rattle.encint.specs.Encint.{encoded}
 use Rattle.entries.specs.Entry.{itemAt, nameOf}
 use Rattle.entries.specs.declared.Limits.{Limits}
 use Rattle.entries.specs.declared.Place.{Place}
-use Rattle.entries.specs.declared.Item.the-variants.{Good}
+use Rattle.entries.specs.declared.Item.{Item}
+use Rattle.entries.specs.declared.Item.the-variants.{Good, Bad}
 use Rattle.entries.proofs.Laws.{item-inside}
 use Rattle.entries.proofs.Padded.{entry-stands}
-use Rattle.chunk.specs.Chunk.{Entry, all, entryOf, entriesAt, countOf, tailOf, entriesIn}
+use Rattle.chunk.specs.Chunk.{Entry, all, entryOf, withItem, entriesAt, countOf, tailOf, spacingOf, entriesIn}
 use Rattle.chunk.proofs.Accepted.{Accepted, accepted, entries-more, entries-count}
+use Rattle.seek.specs.Seek.{absent, found, nth, soughtOf, afterAt, groupAt, nthIn}
+use Rattle.seek.specs.declared.Hit.the-variants.{At, Nothing}
+use Rattle.seek.proofs.Good.{nth-good}
 use Rattle.header.specs.declared.Record.{Record}
 use Rattle.tree.specs.Shape.{isListing}
 use Rattle.book.specs.Book.{limitsOf, chunkPlace, chunkBytes, directoryOf, reportOf, reportAt, ownOf, ownAt, OwnBytes}
@@ -44,6 +50,39 @@ entries-fit limits s end (suc n) at es e l =
     let b = i .ends in
     let r = entries-fit limits s end n (m .0 .next) (m .1) (m .4) (omega arith) in
     omega arith
+
+-- ---- an entry that was found was read at a place
+
+-- go by what stands at a place, and keep the equation
+onItem : {P : Type 0} (i : Item) → (i ≡ Bad → P) → ((p : Place) → i ≡ Good p → P) → P
+onItem Bad f g = f refl
+onItem (Good p) f g = g p refl
+
+hit-item : (i : Item) (e : Place) → withItem i Nothing (λ p. At p) ≡ At e → i ≡ Good e
+hit-item Bad e h = absurd (let z : _≡_ {A = ℕ} 0 1 = cc in omega arith)
+hit-item (Good p) e h = ap Good (let z : p ≡ e = cc in z)
+
+after-read : (limits : Limits) (k : Bool) (s : List ℕ) (j at : ℕ) (e : Place) → afterAt limits k s j at ≡ At e
+    → (p : ℕ) × (itemAt limits k s p ≡ Good e)
+unfolding afterAt
+after-read limits k s zero at e h = (at, hit-item (itemAt limits k s at) e h)
+after-read limits k s (suc j) at e h =
+    onItem (itemAt limits k s at)
+    (λ g. absurd (let d : Nothing ≡ At e = rw g at h in let z : _≡_ {A = ℕ} 0 1 = cc in omega arith))
+    (λ p g. after-read limits k s j (p .next) e (rw g at h))
+
+pub nth-read : (limits : Limits) (k : Bool) (s : List ℕ) (i : ℕ) (e : Place) → nthIn limits k s i ≡ At e
+    → (i < countOf s) × (p : ℕ) × (itemAt limits k s p ≡ Good e)
+unfolding nthIn
+nth-read limits k s i e h = go (ltb i (countOf s)) refl h
+  where
+    n : ℕ
+    n = spacingOf (limits .density)
+
+    go : (t : Bool) → ltb i (countOf s) ≡ t → cond t (afterAt limits k s (i % n) (groupAt k s (i / n))) Nothing ≡ At e
+        → (i < countOf s) × (p : ℕ) × (itemAt limits k s p ≡ Good e)
+    go true l d = let r = after-read limits k s _ _ e d in (ltb-true _ _ l, r .0, r .1)
+    go false l d = absurd (let z : _≡_ {A = ℕ} 0 1 = cc in omega arith)
 
 -- ---- a listing chunk of a book
 
@@ -97,6 +136,18 @@ module _ (s : List ℕ) (book : Record) (c : ℕ) (is : isListing (directoryOf s
       let n = i .ends in
       let q = i .same in
       own-entry s book c e (chunk-whole s book c true is) (omega arith)
+
+  -- entry i as it is found
+  pub nth-hit : (i : ℕ) (e : Place) → nthIn limits true bytes i ≡ At e
+      → (i < countOf bytes) × (nth i es ≡ found (entryOf bytes e)) × (reportAt s book c e ≡ reportOf book c (entryOf bytes e))
+  unfolding directoryOf
+  nth-hit i e h =
+      let r = nth-read limits true bytes i e h in
+      (r .0, sym (nth-good limits bytes true i is) ∙ ap (soughtOf bytes) h, read-reported (r .1) e (r .2))
+
+  pub nth-nothing : (i : ℕ) → nthIn limits true bytes i ≡ Nothing → nth i es ≡ absent
+  unfolding directoryOf
+  nth-nothing i h = sym (nth-good limits bytes true i is) ∙ ap (soughtOf bytes) h
 
   -- the own bytes lie in the file, and are those of the chunk from the entry's place to the place behind it
   pub own-stored : (at : ℕ) (e : Place) → itemAt limits true bytes at ≡ Good e

@@ -104,7 +104,8 @@ module _ (s : List ℕ) (book : Record) (name : List ℕ) (c : ℕ) where
   -- ---- a listing chunk
 
   module _ (h : listingChunk (directoryOf s book) (shapeOf book) c ≡ true) where
-    found-in : (x : Hit) → findIn (limitsOf s book) (chunkBytes s book c) (compared name) ≡ x
+    -- what a search over its bytes finds is an entry of its meaning
+    pub found-in : (x : Hit) → findIn (limitsOf s book) (chunkBytes s book c) (compared name) ≡ x
         → lookup name (entriesIn (directoryOf s book c)) ≡ soughtOf (chunkBytes s book c) x
     unfolding directoryOf
     found-in x q =

@@ -1,4 +1,3 @@
-pub mod Read
 pub mod Stepping
 pub mod Owning
 pub mod Writing

@@ -18,7 +18,7 @@ use Rattle.header.specs.declared.Record.{Record}
 use Rattle.tree.specs.Shape.{isListing, listingChunk}
 use Rattle.tree.proofs.Chunks.{listing-chunk}
 use Rattle.book.specs.Book.{limitsOf, chunkBytes, directoryOf, shapeOf, bookFits, reportOf, ownOf, ownAt}
-use Rattle.book.proofs.Read.{read-owned, own-padded}
+use Rattle.book.proofs.Read.{read-owned, own-padded, nth-read, nth-hit, nth-nothing}
 use Rattle.listing.specs.Listing.{movedOn, stepOf, entryStep, stepped, canList, ownedOf, ownedAt, OwnBeside}
 use Rattle.listing.specs.declared.Cursor.{Cursor}
 use Rattle.listing.specs.declared.Step.{Step}
@@ -26,7 +26,6 @@ use Rattle.listing.specs.declared.Step.the-variants.{Entry as Reported}
 use Rattle.listing.specs.declared.Owned.{Owned}
 use Rattle.listing.specs.declared.Owned.the-variants.{At, Nothing}
 use Rattle.seek.proofs.Steps.{nth-read}
-use Rattle.listing.proofs.Read.{nth-hit, nth-nothing}
 use Rattle.listing.proofs.Stepping.{entry-absent, step-unfit, step-end, step-other, step-entry, some-chunk}
 
 module _ (s : List ℕ) (book : Record) (at : Cursor) where

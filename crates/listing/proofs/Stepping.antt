@@ -21,8 +21,7 @@ use Rattle.listing.specs.declared.Cursor.{Cursor}
 use Rattle.listing.specs.declared.Step.the-variants.{Entry as Reported, End, Refused}
 use Rattle.tree.proofs.Chunks.{listing-chunk}
 use Rattle.book.proofs.Laws.{fits-told}
-use Rattle.book.proofs.Read.{entries-length}
-use Rattle.listing.proofs.Read.{nth-hit, nth-nothing}
+use Rattle.book.proofs.Read.{entries-length, nth-hit, nth-nothing}
 
 -- at a cursor in a chunk that is p
 module _ (book : Record) (p : Parsed) (at : Cursor) where
@@ -91,4 +90,4 @@ module _ (s : List ℕ) (book : Record) (at : Cursor) where
 
 -- the number of a listing chunk is not that of none
 pub some-chunk : (s : List ℕ) (book : Record) (c : ℕ) → bookFits s book ≡ true → listingChunk (directoryOf s book) (shapeOf book) c ≡ true → c ≡ noChunk → ⊥
-some-chunk s book c fits here e = omega (arith, listing-chunk (directoryOf s book) (shapeOf book) c here .0, fits-told s book fits .0)
+some-chunk s book c fits here e = omega (arith, listing-chunk (directoryOf s book) (shapeOf book) c here .0, fits-told s book fits .few-chunks)

@@ -15,8 +15,8 @@ use Rattle.tree.specs.Tree.{top}
 use Rattle.tree.specs.Descent.{trail}
 use Rattle.tree.proofs.Descended.{trail-bound}
 use Rattle.tree.proofs.Same.{same-descent}
-use Rattle.book.specs.Book.{limitsOf, directoryOf, shapeOf, bookFits}
-use Rattle.book.proofs.Laws.{fits-told}
+use Rattle.book.specs.Book.{limitsOf, directoryOf, shapeOf}
+use Rattle.book.proofs.Laws.{fits-told, fits-same}
 use Rattle.lookup.specs.Lookup.{trailIn, costs, lookedUp, trailAfter}
 use Rattle.lookup.specs.Blocks.{SameBlocks, OnlyBlocks}
 
@@ -34,11 +34,11 @@ module _ (s t : List ℕ) (book : Record) (name : List ℕ) where
 
   module _ (h : SameBlocks s t book (trailIn s book name)) where
     same-answer : (places : ℕ) → lookedUp t book name places ≡ lookedUp s book name places
-    unfolding lookedUp bookFits
+    unfolding lookedUp
     same-answer places =
         let d = same-descent (directoryOf s book) (directoryOf t book) (shapeOf book) name (same-chunk (trailIn s book name) h) in
         let c = same-costs (trailIn s book name) (same-chunk (trailIn s book name) h) in
-        rw (d .0, c, d .1, h .lengths) refl
+        rw (d .0, c, d .1, fits-same s t book (h .lengths)) refl
 
     same-trail : (was : List ℕ) → trailAfter t book name was ≡ trailAfter s book name was
     unfolding trailAfter
@@ -52,7 +52,7 @@ only-blocks s book name was =
     record {
       five = λ f. (let b = trail-bound (directoryOf s book) (shapeOf book) name (book .depth) (top (shapeOf book)) in
           let d = fits-told s book f in
-          omega (arith, b, d .2));
+          omega (arith, b, d .few-levels));
       answer-same = λ t h. same-answer s t book name h (length was);
       trail-same = λ t h. same-trail s t book name h was;
     }

@@ -56,7 +56,7 @@ changed (Refused x) was is h = absurd (h x refl)
 
 module _ (s : List ℕ) (book : Record) (name was : List ℕ) (o : OpenedBook s book) (room : 5 ≤ length was) where
   -- every check is passed, so that the answer is the descent's
-  answer-is : 1 ≤ length name → length name ≤ 1024
+  pub answer-is : 1 ≤ length name → length name ≤ 1024
       → lookedUp s book name (length was) ≡ answerOf book (effortIn s book name) (outcomeIn s book name)
   unfolding lookedUp
   answer-is some short = rw (le-leb 1 (length name) some, le-leb (length name) 1024 short, le-leb 5 (length was) room, o .fits) refl

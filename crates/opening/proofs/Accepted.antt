@@ -6,9 +6,8 @@ use mathlib.Core.List.{List}
 use Prim.Native.Nat.{ℕ, zero, suc, _+_, _≤_, _<_}
 use native.Mathlib.Omega.{arith}
 use native.Mathlib.Decide.{ℕ-discrete}
-use lib.ListN.{length}
 use lib.Dec.{eqb}
-use borrow.Author.Tests.{eqb-true, le-leb}
+use borrow.Author.Tests.{eqb-true}
 use Rattle.refusals.specs.Refusals.{refusalOf, refusalAt}
 use Rattle.chunk.specs.Chunk.{Parsed, faultOf}
 use Rattle.header.specs.Header.{headerOf}
@@ -20,6 +19,7 @@ use Rattle.tree.specs.Chain.{chainOk}
 use Rattle.tree.specs.Tree.{treeOk}
 use Rattle.tree.specs.Demand.{GoodDirectory}
 use Rattle.book.specs.Book.{directoryOf, shapeOf, bookFits}
+use Rattle.book.proofs.Laws.{fits-made}
 use Rattle.opening.specs.Opened.{chunksThen, linkedBook, withHeader, opened}
 use Rattle.opening.specs.declared.Opened.{Opened}
 use Rattle.opening.specs.declared.Opened.the-variants.{Book, Refused}
@@ -62,10 +62,17 @@ pub record OpenedBook (s : List ℕ) (r : Record) : Type 0 where
   pub fits : bookFits s r ≡ true
 
 pub head-fits : (s : List ℕ) (r : Record) → headerOf s ≡ Good r → bookFits s r ≡ true
-unfolding bookFits
 head-fits s r e =
     let a = accepted s r e in
-    simp (le-leb (r .density) 7 (a .density), le-leb 1 (r .depth) (a .depth-low), le-leb (r .depth) 5 (a .depth-high), le-leb 1 (r .count) (a .count-low), le-leb (r .count) 4096 (a .count-high), le-leb (r .content) (length s) (a .content))
+    fits-made s r
+    (record {
+      dense = a .density;
+      some-levels = a .depth-low;
+      few-levels = a .depth-high;
+      some-chunks = a .count-low;
+      few-chunks = a .count-high;
+      content-inside = a .content;
+    })
 
 pub opened-book : (s : List ℕ) (r : Record) → opened s ≡ Book r → OpenedBook s r
 unfolding opened

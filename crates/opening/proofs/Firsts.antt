@@ -19,10 +19,12 @@ use Rattle.seek.proofs.Steps.{nth-read}
 use Rattle.seek.proofs.Good.{nth-good, last-good}
 use Rattle.header.specs.declared.Record.{Record}
 use Rattle.book.specs.Book.{limitsOf, chunkBytes, directoryOf}
+use Rattle.book.proofs.Read.{nth-read}
 use Rattle.opening.specs.Passes.{GoodBook, FirstHit}
 use Rattle.opening.proofs.Tags.{kind-true}
 use Rattle.fields.specs.Same.{standsAt}
 
+-- an entry that was found lies inside
 nth-inside : (limits : Limits) (k : Bool) (s : List ℕ) (i : ℕ) (e : Place) → nthIn limits k s i ≡ At e → e .start + e .len ≤ length s
 nth-inside limits k s i e q = let r = nth-read limits k s i e q in item-inside limits k s (r .1) e (r .2) .name
 

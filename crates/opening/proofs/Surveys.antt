@@ -2,21 +2,18 @@
 -- Assumes nothing.
 use mathlib.Core.Path.{_≡_, refl, sym, ap, _∙_}
 use mathlib.Core.Bool.{Bool, true, false, cond, _||_}
-use mathlib.Core.List.{List}
 use Prim.Native.Nat.{ℕ, zero, suc, _+_, _-_, _≤_, _<_}
 use native.Mathlib.Omega.{arith}
 use native.Mathlib.Decide.{ℕ-discrete}
 use native.Mathlib.Numerals.{add-one}
 use lib.Dec.{eqb}
-use borrow.Author.Tests.{eq-eqb, ne-eqb, eqb-true, eqb-false, lt-ltb}
+use borrow.Author.Tests.{eq-eqb, ne-eqb, eqb-true, eqb-false}
 use Rattle.refusals.specs.Refusals.{refusalAt}
 use Rattle.chunk.specs.Chunk.{Parsed, bad, listing, index, faultOf}
 use Rattle.chunk.specs.Answer.{chunkOf}
 use Rattle.chunk.specs.declared.Chunk.{Chunk}
-use Rattle.header.specs.declared.Record.{Record}
 use Rattle.tree.specs.Shape.{isListing, isIndex}
 use Rattle.tree.specs.Walk.{countBelow}
-use Rattle.book.specs.Book.{directoryOf, metChunk}
 use Rattle.opening.specs.Opened.{chunksThen}
 use Rattle.opening.specs.declared.Opened.{Opened}
 use Rattle.opening.specs.declared.Opened.the-variants.{Refused}
@@ -31,10 +28,6 @@ unfolding faultOf
 number-fault (bad n) = refl
 number-fault (listing a b es) = refl
 number-fault (index es) = refl
-
-pub met-inside : (s : List ℕ) (r : Record) (c : ℕ) → c < r .count → metChunk s r c ≡ chunkOf (directoryOf s r c)
-unfolding metChunk
-met-inside s r c l = rw (lt-ltb c (r .count) l)
 
 pub one-most : (k : Chunk) → listingOne k ≤ 1
 one-most (Chunk.Refused n) = omega arith

@@ -1,16 +1,15 @@
 -- A good chunk's tag is its kind, and a good listing chunk's links stand at 12 and 16.
 -- Assumes nothing.
 use mathlib.Core.Path.{_≡_, refl, sym, ap, _∙_}
-use mathlib.Core.Bool.{Bool, true, false, cond, not, _&&_, _||_}
+use mathlib.Core.Bool.{Bool, true, false, cond, not}
 use mathlib.Core.List.{List, []}
-use Prim.Native.Nat.{ℕ, _<_, _≤_}
+use Prim.Native.Nat.{ℕ, _<_}
 use native.Mathlib.Omega.{arith}
 use lib.ListN.{length}
-use lib.Dec.{eqb, ltb}
-use borrow.Author.Tests.{lt-ltb, le-ltb, ltb-true}
+use lib.Dec.{eqb}
 use Rattle.fields.specs.Le.{le}
 use Rattle.fields.specs.Same.{standsAt}
-use Rattle.fields.proofs.Tests.{never, and-both}
+use Rattle.fields.proofs.Tests.{never}
 use Rattle.entries.specs.declared.Limits.{Limits}
 use Rattle.chunk.specs.Chunk.{Parsed, bad, listing, index, tagOf, made, spacingOf, parsedAs, parsed, faultOf, isKind}
 use Rattle.chunk.specs.Answer.{chunkOf}
@@ -19,6 +18,7 @@ use Rattle.chunk.specs.declared.Chunk.the-variants.{Refused, Listing, Index}
 use Rattle.chunk.proofs.Accepted.{as-made}
 use Rattle.header.specs.declared.Record.{Record}
 use Rattle.tree.specs.Shape.{isListing, isIndex, previousOf, nextOf, listingChunk, indexChunk}
+use Rattle.tree.proofs.Chunks.{is-listing, is-index}
 use Rattle.book.specs.Book.{limitsOf, chunkBytes, directoryOf, shapeOf}
 use Rattle.opening.specs.Passes.{GoodBook}
 
@@ -72,32 +72,7 @@ module _ (s : List ℕ) (r : Record) (good : GoodBook s r) (c : ℕ) where
   kind-true l false e = tagged-chunk l .other ∙ ap not e
 
   pub listing-inside : c < r .count → listingChunk (directoryOf s r) (shapeOf r) c ≡ standsAt (chunkBytes s r c) 0 (tagOf true)
-  unfolding listingChunk
-  listing-inside l = rw (lt-ltb c (r .count) l) (tagged-chunk l .kind)
+  listing-inside l = is-listing (directoryOf s r) (shapeOf r) c l ∙ tagged-chunk l .kind
 
   pub index-inside : c < r .count → indexChunk (directoryOf s r) (shapeOf r) c ≡ not (standsAt (chunkBytes s r c) 0 (tagOf true))
-  unfolding indexChunk
-  index-inside l = rw (lt-ltb c (r .count) l) (tagged-chunk l .other)
-
--- a chunk number that is not below the count is of no kind
-module _ (s : List ℕ) (r : Record) (c : ℕ) (l : r .count ≤ c) where
-  pub listing-outside : listingChunk (directoryOf s r) (shapeOf r) c ≡ false
-  unfolding listingChunk
-  listing-outside = rw (le-ltb c (r .count) l)
-
-  pub index-outside : indexChunk (directoryOf s r) (shapeOf r) c ≡ false
-  unfolding indexChunk
-  index-outside = rw (le-ltb c (r .count) l)
-
--- a chunk that counts as of a kind is below the count and of it
-pub listing-is : (s : List ℕ) (r : Record) (c : ℕ) → listingChunk (directoryOf s r) (shapeOf r) c ≡ true → isListing (directoryOf s r c) ≡ true
-unfolding listingChunk
-listing-is s r c h = and-both (ltb c (r .count)) (isListing (directoryOf s r c)) h .1
-
-pub listing-below : (s : List ℕ) (r : Record) (c : ℕ) → listingChunk (directoryOf s r) (shapeOf r) c ≡ true → c < r .count
-unfolding listingChunk
-listing-below s r c h = ltb-true c (r .count) (and-both (ltb c (r .count)) (isListing (directoryOf s r c)) h .0)
-
-pub index-is : (s : List ℕ) (r : Record) (c : ℕ) → indexChunk (directoryOf s r) (shapeOf r) c ≡ true → isIndex (directoryOf s r c) ≡ true
-unfolding indexChunk
-index-is s r c h = and-both (ltb c (r .count)) (isIndex (directoryOf s r c)) h .1
+  index-inside l = is-index (directoryOf s r) (shapeOf r) c l ∙ tagged-chunk l .other

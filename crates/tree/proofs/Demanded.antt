@@ -44,7 +44,7 @@ module _ (D : ℕ → Parsed) (H : Shape) where
       go (suc l) q s e = (l, record { depth-is = q; shape = s; leaves-are = e })
 
 module _ (D : ℕ → Parsed) (H : Shape) (a : GoodDirectory D H) (l : ℕ) (g : Grown D H l) where
-  under-rising : Each Before (under D l (top H))
+  pub under-rising : Each Before (under D l (top H))
   unfolding chainEntries
   under-rising =
       subst (λ cs. Each Before (entriesOf D cs)) (sym (g .leaves-are))

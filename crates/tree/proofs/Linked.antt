@@ -54,6 +54,11 @@ module _ (D : ℕ → Parsed) (H : Shape) where
   linked-chunk zero p c h = never h
   linked-chunk (suc n) p c h = link n p c h .here
 
+  pub linked-previous : (n p c : ℕ) → linked D H n p c ≡ true → previousOf (D c) ≡ p
+  unfolding linked
+  linked-previous zero p c h = never h
+  linked-previous (suc n) p c h = link n p c h .previous
+
   pub chain-first : (n p c : ℕ) → linked D H n p c ≡ true → (cs : List ℕ) × (chainFrom D n c ≡ c ∷ cs)
   unfolding linked chainFrom
   chain-first zero p c h = never h

@@ -1,8 +1,7 @@
-use mathlib.Core.Path.{sym, ap, _∙_}
-use mathlib.Core.Bool.{true}
+use mathlib.Core.Path.{sym, _∙_}
 use denote.Ref.{now}
 use borrow.Author.Needs.{needs}
-use Rattle.book.proofs.Meeting.{isOf, listing-is, not-listing, Linked, met-listing}
+use Rattle.book.proofs.Meeting.{Linked, met-listing, met-no-listing}
 use Rattle.book.proofs.Searching.{search-found, search-next, search-barred}
 use Rattle.book.proofs.search_in.Statement.{statement}
 use Rattle.book.proofs.search_in.Tie as tie
@@ -23,7 +22,7 @@ returns c =
     let m = c .before in
     let a = m .before .before .before .args in
     search-barred (now (a .file)) (a .book) (now (a .name)) (a .c)
-    (listing-is (now (a .file)) (a .book) (a .c) ∙ (ap (isOf true) (sym (m .met .ensures)) ∙ not-listing (m .met .result) (c .match .keys2)))
+    (met-no-listing (now (a .file)) (a .book) (a .c) (m .met .result) (m .met .ensures) (c .match .keys2))
 
 find-in-requires : tie.Need-find-in-requires
 find-in-requires c κs = search needs

@@ -49,7 +49,7 @@ fetch-from-requires c κs =
     let f = e .before in
     let a = f .before .before .before .before .before .args in
     let h = fits-told (now (a .file)) (a .book) (held (f .fits2 .ensures) (e .if2 .left)) in
-    h .1
+    h .some-levels
 
 returns-3 : tie.Need-returns-3
 unfolding fetched

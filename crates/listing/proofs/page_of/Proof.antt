@@ -52,7 +52,7 @@ returns-2 : tie.Need-returns-2
 returns-2 c =
     let m = c .before .before .before in
     let a = m .before .before .before .before .before .args in
-    let o = met-index (now (a .file)) (a .book) (a .chunk) (sym (m .met .ensures) ∙ c .before .enum-told .given .1) in
+    let o = met-index (now (a .file)) (a .book) (a .chunk) (sym (m .met .ensures) ∙ c .before .enum-told .given .1) .1 in
     let r = page-other (now (a .file)) (a .book) (a .chunk) (now (a .out)) (fits-is (m .before)) o in
     (ap Refused (c .refuse2 .ensures) ∙ r .0, r .1)
 
@@ -66,7 +66,7 @@ returns-3 : tie.Need-returns-3
 returns-3 c =
     let m = c .before .before .before in
     let a = m .before .before .before .before .before .args in
-    let o = met-refused (now (a .file)) (a .book) (a .chunk) _ (sym (m .met .ensures) ∙ c .before .enum-told2 .given .1) in
+    let o = met-refused (now (a .file)) (a .book) (a .chunk) _ (sym (m .met .ensures) ∙ c .before .enum-told2 .given .1) .1 in
     let r = page-other (now (a .file)) (a .book) (a .chunk) (now (a .out)) (fits-is (m .before)) o in
     (ap Refused (c .refuse3 .ensures) ∙ r .0, r .1)
 

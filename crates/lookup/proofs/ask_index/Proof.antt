@@ -1,10 +1,10 @@
-use mathlib.Core.Path.{_≡_, sym, ap, _∙_}
-use mathlib.Core.Bool.{true, false}
+use mathlib.Core.Path.{_≡_, sym, _∙_}
+use mathlib.Core.Bool.{true}
 use denote.Ref.{now}
 use borrow.Author.Needs.{needs}
 use Rattle.tree.specs.Shape.{indexChunk}
 use Rattle.book.specs.Book.{directoryOf, shapeOf}
-use Rattle.book.proofs.Meeting.{isOf, index-is, not-index}
+use Rattle.book.proofs.Meeting.{met-index, met-no-index}
 use Rattle.lookup.proofs.Steps.{index-barred, index-down, index-ends}
 use Rattle.lookup.proofs.ask_index.Statement.{statement}
 use Rattle.lookup.proofs.ask_index.Tie as tie
@@ -15,7 +15,7 @@ is-index : (c : tie.After-enum-told)
 is-index c =
     let m = c .before .before in
     let a = m .before .before .before .args in
-    index-is (now (a .file)) (a .book) (a .c) ∙ ap (isOf false) (sym (m .met .ensures) ∙ c .enum-told .given .1)
+    met-index (now (a .file)) (a .book) (a .c) (sym (m .met .ensures) ∙ c .enum-told .given .1) .0
 
 met-requires : tie.Need-met-requires
 met-requires c κs = search needs
@@ -29,7 +29,7 @@ returns c =
     let a = m .before .before .before .args in
     let s = now (a .file) in
     index-barred s (a .book) (now (a .name)) (a .c)
-    (index-is s (a .book) (a .c) ∙ (ap (isOf false) (sym (m .met .ensures)) ∙ not-index (m .met .result) (c .match .keys2)))
+    (met-no-index s (a .book) (a .c) (m .met .result) (m .met .ensures) (c .match .keys2))
 
 child-in-requires : tie.Need-child-in-requires
 child-in-requires c κs = search needs

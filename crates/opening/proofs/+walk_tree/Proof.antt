@@ -12,7 +12,7 @@ use Rattle.tree.proofs.Steps.{walk-none, leaf-other, index-none, index-not, ind
 use Rattle.book.specs.Book.{chunkBytes, directoryOf, shapeOf}
 use Rattle.opening.specs.Passes.{progressOf, childAt}
 use Rattle.opening.specs.declared.Child.the-variants.{Named, Other}
-use Rattle.opening.proofs.Tags.{index-is}
+use Rattle.tree.proofs.Chunks.{index-chunk}
 use Rattle.opening.proofs.Visits.{Left, Visited, all-left, none-left, visited, stopped-is, going-is, leaf-is}
 use borrow.Fn.Kinds.{In}
 use borrow.Fn.PlainCycle.{Measures, is, falls, and}
@@ -100,7 +100,7 @@ walk-tree-loop-holds t c =
     let q : c .le16 .result ≡ countOf (chunkBytes (now (a .file)) (a .book) (a .c)) = rw (← b .chunk-bytes .ensures) (c .le16 .ensures) in (
       entriesIn (directoryOf (now (a .file)) (a .book) (a .c)),
       subst (λ (n : ℕ). Left (now (a .file)) (a .book) (a .c) n 8 (entriesIn (directoryOf (now (a .file)) (a .book) (a .c)))) (sym q)
-          (all-left (now (a .file)) (a .book) (a .c) (index-is (now (a .file)) (a .book) (a .c) h)),
+          (all-left (now (a .file)) (a .book) (a .c) (index-chunk (directoryOf (now (a .file)) (a .book)) (shapeOf (a .book)) (a .c) h .1)),
       index-enter (directoryOf (now (a .file)) (a .book)) (shapeOf (a .book)) (a .level) (a .c) (a .expected) (a .left) (omega arith) (omega arith) h,
     )
 

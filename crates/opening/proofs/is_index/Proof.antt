@@ -3,14 +3,16 @@ use mathlib.Core.Path.{_≡_, sym, ap, _∙_}
 use mathlib.Core.Bool.{not}
 use native.Mathlib.Omega.{arith}
 use denote.Ref.{now}
-use Rattle.opening.proofs.Tags.{index-inside, index-outside}
+use Rattle.tree.proofs.Chunks.{past-count}
+use Rattle.book.specs.Book.{directoryOf, shapeOf}
+use Rattle.opening.proofs.Tags.{index-inside}
 use Rattle.opening.proofs.is_index.Statement.{statement}
 use Rattle.opening.proofs.is_index.Tie as tie
 
 returns : tie.Need-returns
 returns c =
     let a = c .before .before .before .args in
-    sym (index-outside (now (a .file)) (a .book) (a .c) (omega arith))
+    sym (past-count (directoryOf (now (a .file)) (a .book)) (shapeOf (a .book)) (a .c) (omega arith) .1)
 
 chunk-bytes-requires : tie.Need-chunk-bytes-requires
 chunk-bytes-requires c κs = search needs

@@ -3,14 +3,16 @@ use mathlib.Core.Path.{_≡_, sym, ap, _∙_}
 use mathlib.Core.Bool.{not}
 use native.Mathlib.Omega.{arith}
 use denote.Ref.{now}
-use Rattle.opening.proofs.Tags.{listing-inside, listing-outside}
+use Rattle.tree.proofs.Chunks.{past-count}
+use Rattle.book.specs.Book.{directoryOf, shapeOf}
+use Rattle.opening.proofs.Tags.{listing-inside}
 use Rattle.opening.proofs.is_listing.Statement.{statement}
 use Rattle.opening.proofs.is_listing.Tie as tie
 
 returns : tie.Need-returns
 returns c =
     let a = c .before .before .before .args in
-    sym (listing-outside (now (a .file)) (a .book) (a .c) (omega arith))
+    sym (past-count (directoryOf (now (a .file)) (a .book)) (shapeOf (a .book)) (a .c) (omega arith) .0)
 
 chunk-bytes-requires : tie.Need-chunk-bytes-requires
 chunk-bytes-requires c κs = search needs

@@ -1,7 +1,9 @@
 use borrow.Author.Needs.{needs}
 use denote.Ref.{now}
 use Rattle.fields.proofs.Tests.{held, failed}
-use Rattle.opening.proofs.Tags.{tagged-chunk, listing-is, listing-below}
+use Rattle.tree.proofs.Chunks.{listing-chunk}
+use Rattle.book.specs.Book.{directoryOf, shapeOf}
+use Rattle.opening.proofs.Tags.{tagged-chunk}
 use Rattle.opening.proofs.leaf.Statement.{statement}
 use Rattle.opening.proofs.leaf.Tie as tie
 
@@ -25,8 +27,9 @@ returns-2 c =
     let i = c .before .before .before in
     let a = i .before .before .args in
     let l = held (i .is-listing .ensures) (c .before .before .if1 .left) in
-    let g = tagged-chunk (now (a .file)) (a .book) (i .before .before .pre) (a .c) (listing-below (now (a .file)) (a .book) (a .c) l) in
-    rw (l, g .next (listing-is (now (a .file)) (a .book) (a .c) l), ← c .before .chunk-bytes .ensures, c .le32 .ensures)
+    let b = listing-chunk (directoryOf (now (a .file)) (a .book)) (shapeOf (a .book)) (a .c) l in
+    let g = tagged-chunk (now (a .file)) (a .book) (i .before .before .pre) (a .c) (b .0) in
+    rw (l, g .next (b .1), ← c .before .chunk-bytes .ensures, c .le32 .ensures)
 
 pub leaf-spec : {M : Type 1} → statement M
 leaf-spec =

@@ -7,9 +7,10 @@ use denote.Ref.{now}
 use Rattle.fields.proofs.Tests.{held, failed}
 use Rattle.refusals.specs.Refusals.{noChunk}
 use Rattle.tree.specs.Shape.{previousOf, nextOf, listingChunk}
+use Rattle.tree.proofs.Chunks.{listing-chunk}
 use Rattle.book.specs.Book.{directoryOf, shapeOf}
 use Rattle.opening.specs.Passes.{linkOf}
-use Rattle.opening.proofs.Tags.{Tagged, tagged-chunk, listing-is, listing-below}
+use Rattle.opening.proofs.Tags.{Tagged, tagged-chunk}
 use Rattle.opening.proofs.link_from.Statement.{statement}
 use Rattle.opening.proofs.link_from.Tie as tie
 
@@ -22,15 +23,15 @@ tagged-is : (c : tie.After-chunk-bytes) → let a = c .before .before .before .b
 tagged-is c =
     let k = c .before .before .before .before in
     let a = k .args in
-    rw (c .chunk-bytes .ensures) (tagged-chunk (now (a .file)) (a .book) (k .pre) (a .c) (listing-below _ _ _ (is-there (c .before))))
+    rw (c .chunk-bytes .ensures) (tagged-chunk (now (a .file)) (a .book) (k .pre) (a .c) (listing-chunk _ _ _ (is-there (c .before)) .0))
 
 previous-is : (c : tie.After-le32) → let a = c .before .before .before .before .before .args in
     previousOf (directoryOf (now (a .file)) (a .book) (a .c)) ≡ c .le32 .result
-previous-is c = tagged-is (c .before) .previous (listing-is _ _ _ (is-there (c .before .before))) ∙ sym (c .le32 .ensures)
+previous-is c = tagged-is (c .before) .previous (listing-chunk _ _ _ (is-there (c .before .before)) .1) ∙ sym (c .le32 .ensures)
 
 next-is : (c : tie.After-le322) → let a = c .before .before .before .before .before .before .before .args in
     nextOf (directoryOf (now (a .file)) (a .book) (a .c)) ≡ c .le322 .result
-next-is c = let b = c .before .before .before in tagged-is b .next (listing-is _ _ _ (is-there (b .before))) ∙ sym (c .le322 .ensures)
+next-is c = let b = c .before .before .before in tagged-is b .next (listing-chunk _ _ _ (is-there (b .before)) .1) ∙ sym (c .le322 .ensures)
 
 -- another chunk follows
 another : (c : tie.Else3) → eqb (c .before .before .le322 .result) noChunk ≡ false
@@ -89,7 +90,7 @@ names-rise-requires c κs =
     let n = c .before .before in
     let e = n .before .before .before in
     let k = e .before .before .before .before .before .before in
-    (k .pre, listing-below _ _ _ (held (c .before .is-listing2 .ensures) (c .if4 .left)), is-there (e .before .before .before))
+    (k .pre, listing-chunk _ _ _ (held (c .before .is-listing2 .ensures) (c .if4 .left)) .0, is-there (e .before .before .before))
 
 returns-5 : tie.Need-returns-5
 unfolding linkOf

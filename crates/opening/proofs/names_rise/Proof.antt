@@ -10,9 +10,9 @@ use Rattle.seek.specs.Seek.{lastIn}
 use Rattle.seek.specs.declared.Hit.{Hit}
 use Rattle.seek.specs.declared.Hit.the-variants.{At, Nothing}
 use Rattle.tree.specs.Shape.{lastName}
-use Rattle.book.specs.Book.{limitsOf, chunkBytes, directoryOf}
+use Rattle.book.specs.Book.{limitsOf, chunkBytes, directoryOf, shapeOf}
 use Rattle.opening.proofs.Firsts.{Hits, last-found, last-hit}
-use Rattle.opening.proofs.Tags.{listing-is}
+use Rattle.tree.proofs.Chunks.{listing-chunk}
 use Rattle.opening.proofs.names_rise.Statement.{statement}
 use Rattle.opening.proofs.names_rise.Tie as tie
 
@@ -28,7 +28,7 @@ hit c =
     let l = c .before .before in
     let k = l .before .before .before .before in
     let a = k .args in
-    last-hit (limitsOf (now (a .file)) (a .book)) true (chunkBytes (now (a .file)) (a .book) (a .c)) (listing-is (now (a .file)) (a .book) (a .c) (k .pre .2))
+    last-hit (limitsOf (now (a .file)) (a .book)) true (chunkBytes (now (a .file)) (a .book) (a .c)) (listing-chunk (directoryOf (now (a .file)) (a .book)) (shapeOf (a .book)) (a .c) (k .pre .2) .1)
     (c .e .given .0 .0) (sym (c .e .given .1) ∙ asked l)
 
 inside : (c : tie.After-known-told) → let b = c .before .before .before .before .before in let e = c .before .e .given .0 .0 in
@@ -56,7 +56,7 @@ returns c =
     let l = c .before .before in
     let k = l .before .before .before .before in
     let a = k .args in
-    absurd (last-found (limitsOf (now (a .file)) (a .book)) true (chunkBytes (now (a .file)) (a .book) (a .c)) (listing-is (now (a .file)) (a .book) (a .c) (k .pre .2))
+    absurd (last-found (limitsOf (now (a .file)) (a .book)) true (chunkBytes (now (a .file)) (a .book) (a .c)) (listing-chunk (directoryOf (now (a .file)) (a .book)) (shapeOf (a .book)) (a .c) (k .pre .2) .1)
     (sym (c .enum-told .given .1) ∙ asked l))
 
 add-is-before : tie.Need-add-is-before

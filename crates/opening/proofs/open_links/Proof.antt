@@ -4,7 +4,6 @@ use mathlib.Core.Bool.{true, false}
 use native.Mathlib.Omega.{arith}
 use denote.Ref.{now}
 use Rattle.fields.proofs.Tests.{held, failed}
-use Rattle.refusals.specs.Refusals.{noChunk}
 use Rattle.tree.specs.Walk.{chainRun, chainRunOk, treeWalkOk}
 use Rattle.book.specs.Book.{directoryOf, shapeOf}
 use Rattle.opening.specs.declared.Opened.the-variants.{Refused}

@@ -8,7 +8,8 @@ use Rattle.chunk.specs.Chunk.{faultOf}
 use Rattle.chunk.specs.Answer.{chunkOf}
 use Rattle.book.specs.Book.{directoryOf}
 use Rattle.opening.specs.Passes.{numberOf, listingOne, surveyed}
-use Rattle.opening.proofs.Surveys.{number-fault, met-inside, one-most, survey-fault, survey-on, survey-end}
+use Rattle.book.proofs.Meeting.{met-inside}
+use Rattle.opening.proofs.Surveys.{number-fault, one-most, survey-fault, survey-on, survey-end}
 use Rattle.opening.proofs.survey_chunks.Statement.{statement}
 use Rattle.opening.proofs.survey_chunks.Tie as tie
 

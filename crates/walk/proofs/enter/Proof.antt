@@ -62,7 +62,7 @@ returns-4 c =
     let e = m .before .before .before in
     let a = e .before .before .before .before .before .args in
     sym (enter-barred (now (a .file)) (a .book) (a .w) (e .before .before .if1 .left) (on e)
-    (met-index (now (a .file)) (a .book) (a .w .next) (sym (m .met .ensures) ∙ c .enum-told .given .1)))
+    (met-index (now (a .file)) (a .book) (a .w .next) (sym (m .met .ensures) ∙ c .enum-told .given .1) .1))
 
 enum-told-2 : tie.Need-enum-told-2
 enum-told-2 c = search needs
@@ -73,7 +73,7 @@ returns-5 c =
     let e = m .before .before .before in
     let a = e .before .before .before .before .before .args in
     sym (enter-barred (now (a .file)) (a .book) (a .w) (e .before .before .if1 .left) (on e)
-    (met-refused (now (a .file)) (a .book) (a .w .next) _ (sym (m .met .ensures) ∙ c .enum-told2 .given .1)))
+    (met-refused (now (a .file)) (a .book) (a .w .next) _ (sym (m .met .ensures) ∙ c .enum-told2 .given .1) .1))
 
 chunk-bytes-requires : tie.Need-chunk-bytes-requires
 chunk-bytes-requires c κs = search needs

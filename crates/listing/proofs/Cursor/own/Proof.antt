@@ -6,7 +6,7 @@ use Rattle.fields.proofs.Tests.{held, failed}
 use Rattle.seek.specs.Seek.{nthIn}
 use Rattle.book.specs.Book.{limitsOf, chunkBytes, bookFits}
 use Rattle.listing.specs.declared.Owned.the-variants.{At}
-use Rattle.book.proofs.Meeting.{isOf, listing-is, not-listing, Linked, met-listing}
+use Rattle.book.proofs.Meeting.{Linked, met-listing, met-no-listing}
 use Rattle.listing.proofs.Owning.{own-unfit, own-other, own-missing, own-there, owned-answer}
 use Rattle.listing.proofs.Cursor.own.Statement.{statement}
 use Rattle.listing.proofs.Cursor.own.Tie as tie
@@ -43,7 +43,7 @@ returns-2 c =
     let m = c .before in
     let g = m .before .before .before in
     let a = g .before .args in
-    owned-answer (now (a .file)) (λ j. g .shared-slice-known .given j .fits) (a .book) (a .self) _ (sym (own-other _ _ _ (listing-is (now (a .file)) (a .book) (a .self .chunk) ∙ (ap (isOf true) (sym (m .met .ensures)) ∙ not-listing (m .met .result) (c .match .keys2)))))
+    owned-answer (now (a .file)) (λ j. g .shared-slice-known .given j .fits) (a .book) (a .self) _ (sym (own-other _ _ _ (met-no-listing (now (a .file)) (a .book) (a .self .chunk) (m .met .result) (m .met .ensures) (c .match .keys2))))
 
 chunk-bytes-requires : tie.Need-chunk-bytes-requires
 chunk-bytes-requires c κs = search needs

@@ -82,7 +82,7 @@ returns-4 c =
     let e = c .before .before .before .before in
     ap Refused (c .refuse2 .ensures)
     ∙ sym (step-other (now (a .file)) (a .book) (a .self) (fits-is (e .before .before .before)) (another e)
-    (met-index (now (a .file)) (a .book) (a .self .chunk) (sym (c .before .before .before .met .ensures) ∙ c .before .enum-told .given .1)))
+    (met-index (now (a .file)) (a .book) (a .self .chunk) (sym (c .before .before .before .met .ensures) ∙ c .before .enum-told .given .1) .1))
 
 returns-5 : tie.Need-returns-5
 returns-5 c =
@@ -90,7 +90,7 @@ returns-5 c =
     let e = c .before .before .before .before in
     ap Refused (c .refuse3 .ensures)
     ∙ sym (step-other (now (a .file)) (a .book) (a .self) (fits-is (e .before .before .before)) (another e)
-    (met-refused (now (a .file)) (a .book) (a .self .chunk) _ (sym (c .before .before .before .met .ensures) ∙ c .before .enum-told2 .given .1)))
+    (met-refused (now (a .file)) (a .book) (a .self .chunk) _ (sym (c .before .before .before .met .ensures) ∙ c .before .enum-told2 .given .1) .1))
 
 pub step-spec : {M : Type 1} → statement M
 step-spec =
