@@ -19,10 +19,11 @@ use Rattle.entries.specs.declared.Item.{Item}
 use Rattle.entries.specs.declared.Item.the-variants.{Good, Bad}
 use Rattle.entries.proofs.Laws.{item-inside}
 use Rattle.entries.proofs.Padded.{entry-stands}
-use Rattle.chunk.specs.Chunk.{Entry, all, entryOf, withItem, entriesAt, countOf, tailOf, spacingOf, entriesIn}
+use Rattle.chunk.specs.Chunk.{Entry, all, entryOf, entriesAt, countOf, tailOf, spacingOf, entriesIn}
 use Rattle.chunk.proofs.Accepted.{Accepted, accepted, entries-more, entries-count}
 use Rattle.seek.specs.Seek.{absent, found, nth, soughtOf, afterAt, groupAt, nthIn}
 use Rattle.seek.specs.declared.Hit.the-variants.{At, Nothing}
+use Rattle.seek.proofs.Steps.{nth-read}
 use Rattle.seek.proofs.Good.{nth-good}
 use Rattle.header.specs.declared.Record.{Record}
 use Rattle.tree.specs.Shape.{isListing}
@@ -50,39 +51,6 @@ entries-fit limits s end (suc n) at es e l =
     let b = i .ends in
     let r = entries-fit limits s end n (m .0 .next) (m .1) (m .4) (omega arith) in
     omega arith
-
--- ---- an entry that was found was read at a place
-
--- go by what stands at a place, and keep the equation
-onItem : {P : Type 0} (i : Item) → (i ≡ Bad → P) → ((p : Place) → i ≡ Good p → P) → P
-onItem Bad f g = f refl
-onItem (Good p) f g = g p refl
-
-hit-item : (i : Item) (e : Place) → withItem i Nothing (λ p. At p) ≡ At e → i ≡ Good e
-hit-item Bad e h = absurd (let z : _≡_ {A = ℕ} 0 1 = cc in omega arith)
-hit-item (Good p) e h = ap Good (let z : p ≡ e = cc in z)
-
-after-read : (limits : Limits) (k : Bool) (s : List ℕ) (j at : ℕ) (e : Place) → afterAt limits k s j at ≡ At e
-    → (p : ℕ) × (itemAt limits k s p ≡ Good e)
-unfolding afterAt
-after-read limits k s zero at e h = (at, hit-item (itemAt limits k s at) e h)
-after-read limits k s (suc j) at e h =
-    onItem (itemAt limits k s at)
-    (λ g. absurd (let d : Nothing ≡ At e = rw g at h in let z : _≡_ {A = ℕ} 0 1 = cc in omega arith))
-    (λ p g. after-read limits k s j (p .next) e (rw g at h))
-
-pub nth-read : (limits : Limits) (k : Bool) (s : List ℕ) (i : ℕ) (e : Place) → nthIn limits k s i ≡ At e
-    → (i < countOf s) × (p : ℕ) × (itemAt limits k s p ≡ Good e)
-unfolding nthIn
-nth-read limits k s i e h = go (ltb i (countOf s)) refl h
-  where
-    n : ℕ
-    n = spacingOf (limits .density)
-
-    go : (t : Bool) → ltb i (countOf s) ≡ t → cond t (afterAt limits k s (i % n) (groupAt k s (i / n))) Nothing ≡ At e
-        → (i < countOf s) × (p : ℕ) × (itemAt limits k s p ≡ Good e)
-    go true l d = let r = after-read limits k s _ _ e d in (ltb-true _ _ l, r .0, r .1)
-    go false l d = absurd (let z : _≡_ {A = ℕ} 0 1 = cc in omega arith)
 
 -- ---- a listing chunk of a book
 

@@ -19,7 +19,6 @@ use Rattle.seek.proofs.Steps.{nth-read}
 use Rattle.seek.proofs.Good.{nth-good, last-good}
 use Rattle.header.specs.declared.Record.{Record}
 use Rattle.book.specs.Book.{limitsOf, chunkBytes, directoryOf}
-use Rattle.book.proofs.Read.{nth-read}
 use Rattle.opening.specs.Passes.{GoodBook, FirstHit}
 use Rattle.opening.proofs.Tags.{kind-true}
 use Rattle.fields.specs.Same.{standsAt}
