@@ -12,6 +12,8 @@ use Rattle.entries.specs.declared.Limits.{Limits}
 use Rattle.entries.specs.declared.Place.{Place}
 use Rattle.entries.specs.declared.Item.{Item}
 use Rattle.entries.specs.declared.Item.the-variants.{Good, Bad}
+use Rattle.entries.specs.declared.Kind.{Kind}
+use Rattle.entries.specs.declared.Kind.the-variants.{Listing}
 use Rattle.chunk.specs.Chunk.{Entry, entryOf, withItem, countOf, spacingOf, entriesIn}
 use Rattle.seek.specs.Seek.{absent, found, nth, soughtOf, afterAt, groupAt, nthIn}
 use Rattle.seek.specs.declared.Hit.the-variants.{At, Nothing}
@@ -32,7 +34,7 @@ hit-item : (i : Item) (e : Place) → withItem i Nothing (λ p. At p) ≡ At e �
 hit-item Bad e h = absurd (let z : _≡_ {A = ℕ} 0 1 = cc in omega arith)
 hit-item (Good p) e h = ap Good (let z : p ≡ e = cc in z)
 
-after-read : (limits : Limits) (k : Bool) (s : List ℕ) (j at : ℕ) (e : Place) → afterAt limits k s j at ≡ At e
+after-read : (limits : Limits) (k : Kind) (s : List ℕ) (j at : ℕ) (e : Place) → afterAt limits k s j at ≡ At e
     → (p : ℕ) × (itemAt limits k s p ≡ Good e)
 unfolding afterAt
 after-read limits k s zero at e h = (at, hit-item (itemAt limits k s at) e h)
@@ -41,7 +43,7 @@ after-read limits k s (suc j) at e h =
     (λ g. absurd (let d : Nothing ≡ At e = rw g at h in let z : _≡_ {A = ℕ} 0 1 = cc in omega arith))
     (λ p g. after-read limits k s j (p .next) e (rw g at h))
 
-pub nth-read : (limits : Limits) (k : Bool) (s : List ℕ) (i : ℕ) (e : Place) → nthIn limits k s i ≡ At e
+pub nth-read : (limits : Limits) (k : Kind) (s : List ℕ) (i : ℕ) (e : Place) → nthIn limits k s i ≡ At e
     → (i < countOf s) × (p : ℕ) × (itemAt limits k s p ≡ Good e)
 unfolding nthIn
 nth-read limits k s i e h = go (ltb i (countOf s)) refl h
@@ -67,13 +69,13 @@ module _ (s : List ℕ) (book : Record) (c : ℕ) (is : isListing (directoryOf s
   abbrev es : List Entry
   es = entriesIn (directoryOf s book c)
 
-  pub nth-hit : (i : ℕ) (e : Place) → nthIn limits true bytes i ≡ At e
+  pub nth-hit : (i : ℕ) (e : Place) → nthIn limits Listing bytes i ≡ At e
       → (i < countOf bytes) × (nth i es ≡ found (entryOf bytes e)) × (reportAt s book c e ≡ reportOf book c (entryOf bytes e))
   unfolding directoryOf
   nth-hit i e h =
-      let r = nth-read limits true bytes i e h in
-      (r .0, sym (nth-good limits bytes true i is) ∙ ap (soughtOf bytes) h, read-reported s book c is (r .1) e (r .2))
+      let r = nth-read limits Listing bytes i e h in
+      (r .0, sym (nth-good limits bytes Listing i is) ∙ ap (soughtOf bytes) h, read-reported s book c is (r .1) e (r .2))
 
-  pub nth-nothing : (i : ℕ) → nthIn limits true bytes i ≡ Nothing → nth i es ≡ absent
+  pub nth-nothing : (i : ℕ) → nthIn limits Listing bytes i ≡ Nothing → nth i es ≡ absent
   unfolding directoryOf
-  nth-nothing i h = sym (nth-good limits bytes true i is) ∙ ap (soughtOf bytes) h
+  nth-nothing i h = sym (nth-good limits bytes Listing i is) ∙ ap (soughtOf bytes) h

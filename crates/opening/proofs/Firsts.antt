@@ -13,7 +13,7 @@ use Rattle.entries.specs.declared.Place.{Place}
 use Rattle.entries.specs.declared.Item.{Item}
 use Rattle.entries.specs.declared.Item.the-variants.{Good, Bad}
 use Rattle.entries.proofs.Laws.{item-inside}
-use Rattle.chunk.specs.Chunk.{Entry, tagOf, withItem, entryOf, headOf, countOf, tailOf, spacingOf, parsed, entriesIn, isKind}
+use Rattle.chunk.specs.Chunk.{Entry, kindOf, withItem, entryOf, headOf, countOf, tailOf, spacingOf, parsed, entriesIn, isKind}
 use Rattle.chunk.proofs.Accepted.{accepted, entries-count}
 use Rattle.seek.specs.Seek.{Sought, absent, found, nth, nameIn, final, soughtOf, afterAt, groupAt, nthIn, firstIn, lastIn}
 use Rattle.seek.specs.declared.Hit.{Hit}
@@ -23,14 +23,14 @@ use Rattle.header.specs.declared.Record.{Record}
 use Rattle.book.specs.Book.{limitsOf, chunkBytes, directoryOf}
 use Rattle.opening.specs.Passes.{GoodBook, FirstHit}
 use Rattle.opening.proofs.Tags.{kind-true}
-use Rattle.fields.specs.Same.{standsAt}
+use Rattle.entries.specs.declared.Kind.{Kind}
 
 -- ---- what a walk over places gives lies inside
 
 no-hit : {e : Place} {A : Type 0} → Nothing ≡ At e → A
 no-hit q = absurd (let z : _≡_ {A = ℕ} 0 1 = cc in omega arith)
 
-after-inside : (limits : Limits) (k : Bool) (s : List ℕ) (j at : ℕ) (e : Place) → afterAt limits k s j at ≡ At e → e .start + e .len ≤ length s
+after-inside : (limits : Limits) (k : Kind) (s : List ℕ) (j at : ℕ) (e : Place) → afterAt limits k s j at ≡ At e → e .start + e .len ≤ length s
 unfolding afterAt
 after-inside limits k s zero at e q = here (itemAt limits k s at) refl q
   where
@@ -44,7 +44,7 @@ after-inside limits k s (suc j) at e q = on (itemAt limits k s at) (λ p. after-
     on Bad f d = no-hit d
     on (Good p) f d = f p d
 
-pub nth-inside : (limits : Limits) (k : Bool) (s : List ℕ) (i : ℕ) (e : Place) → nthIn limits k s i ≡ At e → e .start + e .len ≤ length s
+pub nth-inside : (limits : Limits) (k : Kind) (s : List ℕ) (i : ℕ) (e : Place) → nthIn limits k s i ≡ At e → e .start + e .len ≤ length s
 unfolding nthIn
 nth-inside limits k s i e q = go (ltb i (countOf s)) q
   where
@@ -81,7 +81,7 @@ pub record Hits (s : List ℕ) (e : Place) (name : List ℕ) : Type 0 where
   pub inside : e .start + e .len ≤ length s
   pub named : nameOf s e ≡ name
 
-module _ (limits : Limits) (k : Bool) (s : List ℕ) (h : isKind k (parsed limits s) ≡ true) where
+module _ (limits : Limits) (k : Kind) (s : List ℕ) (h : isKind k (parsed limits s) ≡ true) where
   es : List Entry
   es = entriesIn (parsed limits s)
 
@@ -116,10 +116,9 @@ module _ (limits : Limits) (k : Bool) (s : List ℕ) (h : isKind k (parsed limit
 -- ---- the first entry of a chunk of a good book
 
 pub first-of-good : (s : List ℕ) (r : Record) → GoodBook s r → (c : ℕ) → c < r .count → (x : Hit)
-    → x ≡ firstIn (limitsOf s r) (standsAt (chunkBytes s r c) 0 (tagOf true)) (chunkBytes s r c) → FirstHit s r c x
+    → x ≡ firstIn (limitsOf s r) (kindOf (chunkBytes s r c)) (chunkBytes s r c) → FirstHit s r c x
 unfolding directoryOf
-first-of-good s r good c l x q = go (standsAt (chunkBytes s r c) 0 (tagOf true)) refl x q
-  where
-    go : (k : Bool) → standsAt (chunkBytes s r c) 0 (tagOf true) ≡ k → (x : Hit) → x ≡ firstIn (limitsOf s r) k (chunkBytes s r c) → FirstHit s r c x
-    go k e Nothing q = absurd (first-found (limitsOf s r) k (chunkBytes s r c) (kind-true s r good c l k e) q)
-    go k e (At p) q = let h = first-hit (limitsOf s r) k (chunkBytes s r c) (kind-true s r good c l k e) p q in (h .inside, h .named)
+first-of-good s r good c l Nothing q = absurd (first-found (limitsOf s r) (kindOf (chunkBytes s r c)) (chunkBytes s r c) (kind-true s r good c l) q)
+first-of-good s r good c l (At p) q =
+    let h = first-hit (limitsOf s r) (kindOf (chunkBytes s r c)) (chunkBytes s r c) (kind-true s r good c l) p q in
+    (h .inside, h .named)

@@ -3,8 +3,7 @@
 use Prim.Native.Nat.{ℕ, zero, suc, _+_}
 use mathlib.Core.Bool.{cond}
 use mathlib.Core.List.{List}
-use lib.Dec.{eqb}
-use Rattle.chunk.specs.Chunk.{Parsed, faultOf}
+use Rattle.chunk.specs.Chunk.{Parsed, bad, listing, index}
 use Rattle.header.specs.Header.{headOf}
 use Rattle.header.specs.declared.Record.{Record}
 use Rattle.header.specs.declared.Head.{Head}
@@ -22,10 +21,16 @@ refusal n = Refused (refusalOf n)
 abbrev pub refusalAt : ℕ → ℕ → Opened
 refusalAt n c = Refused (record { number = n; chunk = c })
 
+-- the refusal of chunk c where it is bad; else r
+abbrev pub chunkThen : Parsed → ℕ → Opened → Opened
+chunkThen (bad n) c r = refusalAt n c
+chunkThen (listing prev next es) c r = r
+chunkThen (index es) c r = r
+
 -- the refusal of the first bad chunk among n from c on (RO2); else r
 unfoldable pub chunksThen : (ℕ → Parsed) → ℕ → ℕ → Opened → Opened
 chunksThen D zero c r = r
-chunksThen D (suc n) c r = cond (eqb (faultOf (D c)) 0) (chunksThen D n (c + 1) r) (refusalAt (faultOf (D c)) c)
+chunksThen D (suc n) c r = chunkThen (D c) c (chunksThen D n (c + 1) r)
 
 -- chain, then tree (RO3), of a book whose head and chunks are good
 unfoldable pub linkedBook : List ℕ → Record → Opened

@@ -1,7 +1,8 @@
 use mathlib.Core.Path.{_≡_, sym, ap, _∙_}
-use mathlib.Core.Bool.{true, false}
+use mathlib.Core.Bool.{true}
 use denote.Ref.{now}
 use borrow.Author.Needs.{needs}
+use Rattle.entries.specs.declared.Kind.the-variants.{Index}
 use Rattle.tree.specs.Shape.{indexChunk}
 use Rattle.book.specs.Book.{directoryOf, shapeOf}
 use Rattle.book.proofs.Meeting.{isOf, index-is, not-index}
@@ -15,7 +16,7 @@ is-index : (c : tie.After-enum-told)
 is-index c =
     let m = c .before .before in
     let a = m .before .before .before .args in
-    index-is (now (a .file)) (a .book) (a .c) ∙ ap (isOf false) (sym (m .met .ensures) ∙ c .enum-told .given .1)
+    index-is (now (a .file)) (a .book) (a .c) ∙ ap (isOf Index) (sym (m .met .ensures) ∙ c .enum-told .given .1)
 
 met-requires : tie.Need-met-requires
 met-requires c κs = search needs
@@ -29,7 +30,7 @@ returns c =
     let a = m .before .before .before .args in
     let s = now (a .file) in
     index-barred s (a .book) (now (a .name)) (a .c)
-    (index-is s (a .book) (a .c) ∙ (ap (isOf false) (sym (m .met .ensures)) ∙ not-index (m .met .result) (c .match .keys2)))
+    (index-is s (a .book) (a .c) ∙ (ap (isOf Index) (sym (m .met .ensures)) ∙ not-index (m .met .result) (c .match .keys2)))
 
 child-in-requires : tie.Need-child-in-requires
 child-in-requires c κs = search needs

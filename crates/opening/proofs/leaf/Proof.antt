@@ -1,7 +1,7 @@
 use borrow.Author.Needs.{needs}
 use denote.Ref.{now}
 use Rattle.fields.proofs.Tests.{held, failed}
-use Rattle.opening.proofs.Tags.{tagged-chunk, listing-is, listing-below}
+use Rattle.opening.proofs.Tags.{links-stand, listing-is, listing-below}
 use Rattle.opening.proofs.leaf.Statement.{statement}
 use Rattle.opening.proofs.leaf.Tie as tie
 
@@ -14,8 +14,8 @@ returns c = rw (failed (c .before .is-listing .ensures) (c .if1 .taken))
 chunk-bytes-requires : tie.Need-chunk-bytes-requires
 chunk-bytes-requires c κs = search needs
 
-le32-requires : tie.Need-le32-requires
-le32-requires c κs = search needs
+next-link-requires : tie.Need-next-link-requires
+next-link-requires c κs = search needs
 
 cast-t9 : tie.Need-cast-t9
 cast-t9 c = search needs
@@ -25,10 +25,10 @@ returns-2 c =
     let i = c .before .before .before in
     let a = i .before .before .args in
     let l = held (i .is-listing .ensures) (c .before .before .if1 .left) in
-    let g = tagged-chunk (now (a .file)) (a .book) (i .before .before .pre) (a .c) (listing-below (now (a .file)) (a .book) (a .c) l) in
-    rw (l, g .next (listing-is (now (a .file)) (a .book) (a .c) l), ← c .before .chunk-bytes .ensures, c .le32 .ensures)
+    let g = links-stand (now (a .file)) (a .book) (i .before .before .pre) (a .c) (listing-below (now (a .file)) (a .book) (a .c) l) (listing-is (now (a .file)) (a .book) (a .c) l) in
+    rw (l, g .1, ← c .before .chunk-bytes .ensures, c .next-link .ensures)
 
 pub leaf-spec : {M : Type 1} → statement M
 leaf-spec =
     tie.close
-    (tie.spec is-listing-requires returns chunk-bytes-requires le32-requires cast-t9 returns-2)
+    (tie.spec is-listing-requires returns chunk-bytes-requires next-link-requires cast-t9 returns-2)

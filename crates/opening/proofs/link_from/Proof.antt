@@ -4,10 +4,11 @@ use mathlib.Core.Path.{_≡_, sym, ap, _∙_}
 use mathlib.Core.Bool.{true}
 use denote.Ref.{now}
 use Rattle.fields.proofs.Tests.{held, failed}
+use Rattle.chunk.specs.Chunk.{previousLink, nextLink}
 use Rattle.tree.specs.Shape.{noChunk, previousOf, nextOf, listingChunk}
 use Rattle.book.specs.Book.{directoryOf, shapeOf}
 use Rattle.opening.specs.Passes.{linkOf}
-use Rattle.opening.proofs.Tags.{Tagged, tagged-chunk, listing-is, listing-below}
+use Rattle.opening.proofs.Tags.{links-stand, listing-is, listing-below}
 use Rattle.opening.proofs.link_from.Statement.{statement}
 use Rattle.opening.proofs.link_from.Tie as tie
 
@@ -15,20 +16,21 @@ use Rattle.opening.proofs.link_from.Tie as tie
 is-there : (c : tie.Else1) → let a = c .before .before .before .args in listingChunk (directoryOf (now (a .file)) (a .book)) (shapeOf (a .book)) (a .c) ≡ true
 is-there c = held (c .before .is-listing .ensures) (c .if1 .left)
 
-tagged-is : (c : tie.After-chunk-bytes) → let a = c .before .before .before .before .args in
-    Tagged (directoryOf (now (a .file)) (a .book) (a .c)) (now (c .chunk-bytes .result))
-tagged-is c =
+links-are : (c : tie.After-chunk-bytes) → let a = c .before .before .before .before .args in let p = directoryOf (now (a .file)) (a .book) (a .c) in
+    (previousOf p ≡ previousLink (now (c .chunk-bytes .result))) × (nextOf p ≡ nextLink (now (c .chunk-bytes .result)))
+links-are c =
     let k = c .before .before .before .before in
     let a = k .args in
-    rw (c .chunk-bytes .ensures) (tagged-chunk (now (a .file)) (a .book) (k .pre) (a .c) (listing-below _ _ _ (is-there (c .before))))
+    let t = is-there (c .before) in
+    rw (c .chunk-bytes .ensures) (links-stand (now (a .file)) (a .book) (k .pre) (a .c) (listing-below _ _ _ t) (listing-is _ _ _ t))
 
-previous-is : (c : tie.After-le32) → let a = c .before .before .before .before .before .args in
-    previousOf (directoryOf (now (a .file)) (a .book) (a .c)) ≡ c .le32 .result
-previous-is c = tagged-is (c .before) .previous (listing-is _ _ _ (is-there (c .before .before))) ∙ sym (c .le32 .ensures)
+previous-is : (c : tie.After-previous-link) → let a = c .before .before .before .before .before .args in
+    previousOf (directoryOf (now (a .file)) (a .book) (a .c)) ≡ c .previous-link .result
+previous-is c = links-are (c .before) .0 ∙ sym (c .previous-link .ensures)
 
-next-is : (c : tie.After-le322) → let a = c .before .before .before .before .before .before .before .args in
-    nextOf (directoryOf (now (a .file)) (a .book) (a .c)) ≡ c .le322 .result
-next-is c = let b = c .before .before .before in tagged-is b .next (listing-is _ _ _ (is-there (b .before))) ∙ sym (c .le322 .ensures)
+next-is : (c : tie.After-next-link) → let a = c .before .before .before .before .before .before .before .args in
+    nextOf (directoryOf (now (a .file)) (a .book) (a .c)) ≡ c .next-link .result
+next-is c = links-are (c .before .before .before) .1 ∙ sym (c .next-link .ensures)
 
 is-listing-requires : tie.Need-is-listing-requires
 is-listing-requires c κs = search needs
@@ -40,8 +42,8 @@ returns c = rw (failed (c .before .is-listing .ensures) (c .if1 .taken))
 chunk-bytes-requires : tie.Need-chunk-bytes-requires
 chunk-bytes-requires c κs = search needs
 
-le32-requires : tie.Need-le32-requires
-le32-requires c κs = search needs
+previous-link-requires : tie.Need-previous-link-requires
+previous-link-requires c κs = search needs
 
 cast-if2 : tie.Need-cast-if2
 cast-if2 c = search needs
@@ -50,8 +52,8 @@ returns-2 : tie.Need-returns-2
 unfolding linkOf
 returns-2 c = rw (is-there (c .before .before .before), previous-is (c .before), ne-eqb _ _ (c .if2 .taken))
 
-le32-requires-2 : tie.Need-le32-requires-2
-le32-requires-2 c κs = search needs
+next-link-requires : tie.Need-next-link-requires
+next-link-requires c κs = search needs
 
 cast-next : tie.Need-cast-next
 cast-next c = search needs
@@ -104,10 +106,10 @@ link-from-spec =
     is-listing-requires
     returns
     chunk-bytes-requires
-    le32-requires
+    previous-link-requires
     cast-if2
     returns-2
-    le32-requires-2
+    next-link-requires
     cast-next
     returns-3
     is-listing-requires-2
