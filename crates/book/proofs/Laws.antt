@@ -2,7 +2,7 @@
 -- record that can be asked has.
 -- Assumes nothing.
 use mathlib.Core.Path.{_≡_, refl, sym, ap, _∙_}
-use mathlib.Core.Bool.{Bool, true, _&&_}
+use mathlib.Core.Bool.{true, _&&_}
 use mathlib.Core.List.{List}
 use Prim.Native.Nat.{ℕ, _+_, _≤_, _<_}
 use native.Mathlib.Omega.{arith}
@@ -14,6 +14,7 @@ use Rattle.fields.proofs.Tests.{and-both}
 use Rattle.fields.specs.Part.{part, partOf}
 use Rattle.fields.proofs.Parts.{length-part, part-inside, part-outside, part-small, part-within}
 use Rattle.entries.specs.declared.Place.{Place}
+use Rattle.entries.specs.declared.Kind.{Kind}
 use Rattle.chunk.specs.Chunk.{entryOf, isKind}
 use Rattle.chunk.proofs.Accepted.{accepted}
 use Rattle.directory_header.specs.DirectoryHeader.{within}
@@ -39,7 +40,7 @@ module _ (s : List ℕ) (r : Record) (c : ℕ) where
       ]
 
   -- a chunk of either kind has its bytes
-  pub chunk-whole : (k : Bool) → isKind k (directoryOf s r c) ≡ true → length (chunkBytes s r c) ≡ 4096
+  pub chunk-whole : (k : Kind) → isKind k (directoryOf s r c) ≡ true → length (chunkBytes s r c) ≡ 4096
   unfolding directoryOf
   chunk-whole k h = accepted (limitsOf s r) k (chunkBytes s r c) h .size
 

@@ -2,7 +2,7 @@
 -- Assumes nothing.
 use mathlib.Core.Path.{_≡_, refl, sym, ap, _∙_}
 use mathlib.Core.Logic.{inl, inr}
-use mathlib.Core.Bool.{Bool, true, false, cond, not, _&&_}
+use mathlib.Core.Bool.{Bool, true, false, cond, _&&_}
 use mathlib.Core.List.{List, [], _∷_}
 use Prim.Native.Nat.{ℕ, _<_}
 use native.Mathlib.Omega.{arith}
@@ -10,6 +10,7 @@ use lib.Dec.{ltb}
 use borrow.Author.Tests.{lt-ltb}
 use types.Run.{OneOf}
 use denote.Enum.Declared.{tagOf}
+use Rattle.entries.specs.declared.Kind.{Kind}
 use Rattle.chunk.specs.Chunk.{Parsed, bad, listing, index, isKind}
 use Rattle.chunk.specs.Answer.{chunkOf}
 use Rattle.chunk.specs.declared.Chunk.{Chunk}
@@ -20,21 +21,25 @@ use Rattle.tree.specs.Shape.{isListing, previousOf, nextOf, listingChunk, index
 use Rattle.book.specs.Book.{directoryOf, shapeOf, metChunk}
 
 -- the answer is a chunk of the kind k
-abbrev isOf : Bool → Chunk → Bool
+abbrev isOf : Kind → Chunk → Bool
 isOf k (Refused n) = false
-isOf k (Listing p n) = k
-isOf k Index = not k
+isOf Kind.Listing (Listing p n) = true
+isOf Kind.Listing Index = false
+isOf Kind.Index (Listing p n) = false
+isOf Kind.Index Index = true
 
 -- a number that is below the count where t, of a chunk that is p
 abbrev metOf : Bool → Parsed → Chunk
 metOf t p = cond t (chunkOf p) (Refused 17)
 
-of-kind : (k : Bool) (p : Parsed) → isOf k (chunkOf p) ≡ isKind k p
+of-kind : (k : Kind) (p : Parsed) → isOf k (chunkOf p) ≡ isKind k p
 of-kind k (bad n) = refl
-of-kind k (listing p n es) = refl
-of-kind k (index es) = refl
+of-kind Kind.Listing (listing p n es) = refl
+of-kind Kind.Listing (index es) = refl
+of-kind Kind.Index (listing p n es) = refl
+of-kind Kind.Index (index es) = refl
 
-of-met : (k t : Bool) (p : Parsed) → isOf k (metOf t p) ≡ (t && isKind k p)
+of-met : (k : Kind) (t : Bool) (p : Parsed) → isOf k (metOf t p) ≡ (t && isKind k p)
 of-met k true p = of-kind k p
 of-met k false p = refl
 
@@ -57,13 +62,13 @@ not-index (Listing p n) h = refl
 not-index Index h = elim h [ inl e ↦ absurd (omega arith) | inr e ↦ absurd (omega arith) ]
 
 module _ (s : List ℕ) (book : Record) (c : ℕ) where
-  listing-is : listingChunk (directoryOf s book) (shapeOf book) c ≡ isOf true (metChunk s book c)
+  listing-is : listingChunk (directoryOf s book) (shapeOf book) c ≡ isOf Kind.Listing (metChunk s book c)
   unfolding listingChunk metChunk
-  listing-is = sym (of-met true (ltb c (book .count)) (directoryOf s book c))
+  listing-is = sym (of-met Kind.Listing (ltb c (book .count)) (directoryOf s book c))
 
-  index-is : indexChunk (directoryOf s book) (shapeOf book) c ≡ isOf false (metChunk s book c)
+  index-is : indexChunk (directoryOf s book) (shapeOf book) c ≡ isOf Kind.Index (metChunk s book c)
   unfolding indexChunk metChunk
-  index-is = sym (of-met false (ltb c (book .count)) (directoryOf s book c))
+  index-is = sym (of-met Kind.Index (ltb c (book .count)) (directoryOf s book c))
 
   -- what is met is a listing chunk, with its links,
   pub record Linked (previous next : ℕ) : Type 0 where
@@ -76,25 +81,25 @@ module _ (s : List ℕ) (book : Record) (c : ℕ) where
   unfolding metChunk
   met-listing a b e =
       let l = linked-of (ltb c (book .count)) (directoryOf s book c) a b e in
-      record { below = listing-is ∙ ap (isOf true) e; kind = l .0; previous-is = l .1; next-is = l .2 }
+      record { below = listing-is ∙ ap (isOf Kind.Listing) e; kind = l .0; previous-is = l .1; next-is = l .2 }
 
   -- or an index chunk,
   pub met-index : metChunk s book c ≡ Index
       → (indexChunk (directoryOf s book) (shapeOf book) c ≡ true) × (listingChunk (directoryOf s book) (shapeOf book) c ≡ false)
-  met-index e = (index-is ∙ ap (isOf false) e, listing-is ∙ ap (isOf true) e)
+  met-index e = (index-is ∙ ap (isOf Kind.Index) e, listing-is ∙ ap (isOf Kind.Listing) e)
 
   -- or of no kind
   pub met-refused : (n : ℕ) → metChunk s book c ≡ Refused n
       → (indexChunk (directoryOf s book) (shapeOf book) c ≡ false) × (listingChunk (directoryOf s book) (shapeOf book) c ≡ false)
-  met-refused n e = (index-is ∙ ap (isOf false) e, listing-is ∙ ap (isOf true) e)
+  met-refused n e = (index-is ∙ ap (isOf Kind.Index) e, listing-is ∙ ap (isOf Kind.Listing) e)
 
   -- the same of an answer x where only one kind was looked for
   module _ (x : Chunk) (e : x ≡ metChunk s book c) where
     pub met-no-listing : OneOf (0 ∷ 2 ∷ []) (tagOf chunk-type.the-type x) → listingChunk (directoryOf s book) (shapeOf book) c ≡ false
-    met-no-listing h = listing-is ∙ (ap (isOf true) (sym e) ∙ not-listing x h)
+    met-no-listing h = listing-is ∙ (ap (isOf Kind.Listing) (sym e) ∙ not-listing x h)
 
     pub met-no-index : OneOf (0 ∷ 1 ∷ []) (tagOf chunk-type.the-type x) → indexChunk (directoryOf s book) (shapeOf book) c ≡ false
-    met-no-index h = index-is ∙ (ap (isOf false) (sym e) ∙ not-index x h)
+    met-no-index h = index-is ∙ (ap (isOf Kind.Index) (sym e) ∙ not-index x h)
 
   -- below the count it is what the chunk means
   pub met-inside : c < book .count → metChunk s book c ≡ chunkOf (directoryOf s book c)

@@ -19,7 +19,8 @@ use Rattle.entries.specs.declared.Item.{Item}
 use Rattle.entries.specs.declared.Item.the-variants.{Good, Bad}
 use Rattle.entries.proofs.Laws.{item-inside}
 use Rattle.entries.proofs.Padded.{entry-stands}
-use Rattle.chunk.specs.Chunk.{Entry, all, entryOf, entriesAt, countOf, tailOf, spacingOf, entriesIn}
+use Rattle.entries.specs.declared.Kind.the-variants.{Listing}
+use Rattle.chunk.specs.Chunk.{Entry, all, entryOf, entriesAt, countOf, tailOf, spacingOf, entriesIn, headOf}
 use Rattle.chunk.proofs.Accepted.{Accepted, accepted, entries-more, entries-count}
 use Rattle.seek.specs.Seek.{absent, found, nth, soughtOf, afterAt, groupAt, nthIn}
 use Rattle.seek.specs.declared.Hit.the-variants.{At, Nothing}
@@ -32,21 +33,21 @@ use Rattle.book.proofs.Laws.{chunk-whole, chunk-part, chunk-small, repo
 
 -- ---- entries that are left: those from entry i on
 
-pub left-more : (limits : Limits) (s : List ℕ) (end n i at : ℕ) (es : List Entry) → i < n → entriesAt limits true s end (n - i) at ≡ all (drop i es)
-    → (p : Place) × (itemAt limits true s at ≡ Good p) × (drop i es ≡ entryOf s p ∷ drop (i + 1) es)
-    × (entriesAt limits true s end (n - (i + 1)) (p .next) ≡ all (drop (i + 1) es))
+pub left-more : (limits : Limits) (s : List ℕ) (end n i at : ℕ) (es : List Entry) → i < n → entriesAt limits Listing s end (n - i) at ≡ all (drop i es)
+    → (p : Place) × (itemAt limits Listing s at ≡ Good p) × (drop i es ≡ entryOf s p ∷ drop (i + 1) es)
+    × (entriesAt limits Listing s end (n - (i + 1)) (p .next) ≡ all (drop (i + 1) es))
 left-more limits s end n i at es l e =
     let q : n - i ≡ suc (n - (i + 1)) = omega arith in
-    let m = entries-more limits true s end (n - (i + 1)) at (drop i es) (rw q at e) in
+    let m = entries-more limits Listing s end (n - (i + 1)) at (drop i es) (rw q at e) in
     let r : drop (i + 1) es ≡ m .1 = sym (drop-drop 1 i es) ∙ ap (drop 1) (m .3) in
     (m .0, m .2, m .3 ∙ ap (λ xs. entryOf s (m .0) ∷ xs) (sym r), m .4 ∙ ap all (sym r))
 
 -- each takes a byte at least
-entries-fit : (limits : Limits) (s : List ℕ) (end n at : ℕ) (es : List Entry) → entriesAt limits true s end n at ≡ all es → at ≤ length s → at + n ≤ length s
+entries-fit : (limits : Limits) (s : List ℕ) (end n at : ℕ) (es : List Entry) → entriesAt limits Listing s end n at ≡ all es → at ≤ length s → at + n ≤ length s
 entries-fit limits s end zero at es e l = omega arith
 entries-fit limits s end (suc n) at es e l =
-    let m = entries-more limits true s end n at es e in
-    let i = item-inside limits true s at (m .0) (m .2) in
+    let m = entries-more limits Listing s end n at es e in
+    let i = item-inside limits Listing s at (m .0) (m .2) in
     let a = i .moves in
     let b = i .ends in
     let r = entries-fit limits s end n (m .0 .next) (m .1) (m .4) (omega arith) in
@@ -65,12 +66,12 @@ module _ (s : List ℕ) (book : Record) (c : ℕ) (is : isListing (directoryOf s
   abbrev es : List Entry
   es = entriesIn (directoryOf s book c)
 
-  good : Accepted limits true bytes es
+  good : Accepted limits Listing bytes es
   unfolding directoryOf
-  good = accepted limits true bytes is
+  good = accepted limits Listing bytes is
 
   pub entries-length : length es ≡ countOf bytes
-  entries-length = entries-count limits true bytes (4096 - tailOf bytes) (countOf bytes) 20 es (good .entries)
+  entries-length = entries-count limits Listing bytes (4096 - tailOf bytes) (countOf bytes) (headOf Listing) es (good .entries)
 
   pub entries-some : 0 < length es
   entries-some = let l = entries-length in let g = good .some in omega arith
@@ -79,31 +80,31 @@ module _ (s : List ℕ) (book : Record) (c : ℕ) (is : isListing (directoryOf s
   entries-few =
       let z = good .size in
       let l = entries-length in
-      let f = entries-fit limits bytes (4096 - tailOf bytes) (countOf bytes) 20 es (good .entries) (omega arith) in
+      let f = entries-fit limits bytes (4096 - tailOf bytes) (countOf bytes) (headOf Listing) es (good .entries) (omega arith) in
       omega arith
 
   -- all of them are left at first
-  pub entries-left : entriesAt limits true bytes (4096 - tailOf bytes) (countOf bytes - 0) 20 ≡ all es
+  pub entries-left : entriesAt limits Listing bytes (4096 - tailOf bytes) (countOf bytes - 0) (headOf Listing) ≡ all es
   entries-left = let z : countOf bytes - 0 ≡ countOf bytes = omega arith in rw z (good .entries)
 
-  pub entries-read : entriesAt limits true bytes (4096 - tailOf bytes) (length es) 20 ≡ all es
+  pub entries-read : entriesAt limits Listing bytes (4096 - tailOf bytes) (length es) (headOf Listing) ≡ all es
   entries-read = rw entries-length (good .entries)
 
   -- what was read is reported as its entry says
-  pub read-reported : (at : ℕ) (e : Place) → itemAt limits true bytes at ≡ Good e → reportAt s book c e ≡ reportOf book c (entryOf bytes e)
+  pub read-reported : (at : ℕ) (e : Place) → itemAt limits Listing bytes at ≡ Good e → reportAt s book c e ≡ reportOf book c (entryOf bytes e)
   read-reported at e h =
       let z = good .size in
-      let i = item-inside limits true bytes at e h .name in
-      report-entry s book c e (chunk-whole s book c true is) (omega arith)
+      let i = item-inside limits Listing bytes at e h .name in
+      report-entry s book c e (chunk-whole s book c Listing is) (omega arith)
 
-  pub read-owned : (at : ℕ) (e : Place) → itemAt limits true bytes at ≡ Good e → ownAt s book c e ≡ ownOf book c (entryOf bytes e)
+  pub read-owned : (at : ℕ) (e : Place) → itemAt limits Listing bytes at ≡ Good e → ownAt s book c e ≡ ownOf book c (entryOf bytes e)
   read-owned at e h =
       let z = good .size in
-      let i = item-inside limits true bytes at e h in
+      let i = item-inside limits Listing bytes at e h in
       let m = i .moves in
       let n = i .ends in
       let q = i .same in
-      own-entry s book c e (chunk-whole s book c true is) (omega arith)
+      own-entry s book c e (chunk-whole s book c Listing is) (omega arith)
 
   -- entry i as it is found
   pub nth-hit : (i : ℕ) (e : Place) → nthIn limits true bytes i ≡ At e
@@ -118,34 +119,34 @@ module _ (s : List ℕ) (book : Record) (c : ℕ) (is : isListing (directoryOf s
   nth-nothing i h = sym (nth-good limits bytes true i is) ∙ ap (soughtOf bytes) h
 
   -- the own bytes lie in the file, and are those of the chunk from the entry's place to the place behind it
-  pub own-stored : (at : ℕ) (e : Place) → itemAt limits true bytes at ≡ Good e
+  pub own-stored : (at : ℕ) (e : Place) → itemAt limits Listing bytes at ≡ Good e
       → partOf s (ownOf book c (entryOf bytes e) .place) (ownOf book c (entryOf bytes e) .length) ≡ part bytes (e .at) (e .next - e .at)
   unfolding ownOf
   own-stored at e h =
       let z = good .size in
-      let i = item-inside limits true bytes at e h in
+      let i = item-inside limits Listing bytes at e h in
       let m = i .moves in
       let n = i .ends in
       let q = i .same in
       chunk-part s book c z (e .at) (e .next - e .at) (omega arith)
 
   -- and so with its name
-  name-stored : (at : ℕ) (e : Place) → itemAt limits true bytes at ≡ Good e
+  name-stored : (at : ℕ) (e : Place) → itemAt limits Listing bytes at ≡ Good e
       → partOf s (reportOf book c (entryOf bytes e) .place) (reportOf book c (entryOf bytes e) .length) ≡ nameOf bytes e
   unfolding reportOf
   name-stored at e h =
       let z = good .size in
-      let n = item-inside limits true bytes at e h .name in
+      let n = item-inside limits Listing bytes at e h .name in
       let l : length (nameOf bytes e) ≡ e .len = length-part bytes (e .start) (e .len) n in
       ap (partOf s (chunkPlace book c + e .start)) l ∙ chunk-part s book c z (e .start) (e .len) (omega arith)
 
   -- the own bytes are the name, and around it the numbers that are reported, each in its short form behind bytes 80 or none
-  pub own-padded : ((i : ℕ) → getD s i 0 < 256) → (at : ℕ) (e : Place) → itemAt limits true bytes at ≡ Good e
+  pub own-padded : ((i : ℕ) → getD s i 0 < 256) → (at : ℕ) (e : Place) → itemAt limits Listing bytes at ≡ Good e
       → OwnBytes s (reportOf book c (entryOf bytes e)) (ownOf book c (entryOf bytes e))
   unfolding itemAt reportOf ownOf
   own-padded b at e h =
       let p = entry-stands bytes (chunk-small s book c b) (limits .content) at e h in
-      let n = item-inside limits true bytes at e h .name in
+      let n = item-inside limits Listing bytes at e h .name in
       let l : length (nameOf bytes e) ≡ e .len = length-part bytes (e .start) (e .len) n in
       let q : e .start ≡ e .at + (p .0 .ahead + length (encoded (e .len))) = p .1 in
       let m : length (encoded (length (nameOf bytes e))) ≡ length (encoded (e .len)) = ap (λ (v : ℕ). length (encoded v)) l in

@@ -15,6 +15,8 @@ use Rattle.names.specs.Names.{compared, matches}
 use Rattle.names.specs.Order.{isEqual}
 use Rattle.entries.specs.Entry.{nameOf}
 use Rattle.entries.specs.declared.Place.{Place}
+use Rattle.entries.specs.declared.Kind.{Kind}
+use Rattle.entries.specs.declared.Kind.the-variants.{Listing, Index}
 use Rattle.chunk.specs.Chunk.{Entry, entryOf, entriesIn}
 use Rattle.seek.specs.Seek.{Sought, lookup, soughtOf, findIn, chooseIn}
 use Rattle.seek.specs.Count.{costIn}
@@ -63,25 +65,25 @@ module _ (s : List ℕ) (book : Record) (name : List ℕ) (c : ℕ) where
 
   -- what a finding tells: the entry that the search over the bytes found, or that it found none, and how many names it compared
   pub finding-found : (x : Report) (n : ℕ) → findingIn s book name c ≡ Finding.Found n x
-      → ((e : Place) × ((findIn (limitsOf s book) (chunkBytes s book c) (compared name) ≡ At e) × (x ≡ reportOf book c (entryOf (chunkBytes s book c) e)))) × (costIn (limitsOf s book) true (chunkBytes s book c) (compared name) ≡ n)
+      → ((e : Place) × ((findIn (limitsOf s book) (chunkBytes s book c) (compared name) ≡ At e) × (x ≡ reportOf book c (entryOf (chunkBytes s book c) e)))) × (costIn (limitsOf s book) Listing (chunkBytes s book c) (compared name) ≡ n)
   unfolding findingIn
   finding-found x n = go (findIn (limitsOf s book) (chunkBytes s book c) (compared name)) refl
     where
-      go : (y : Hit) → findIn (limitsOf s book) (chunkBytes s book c) (compared name) ≡ y → findingOf s book c (costIn (limitsOf s book) true (chunkBytes s book c) (compared name)) y ≡ Finding.Found n x
-          → ((e : Place) × ((findIn (limitsOf s book) (chunkBytes s book c) (compared name) ≡ At e) × (x ≡ reportOf book c (entryOf (chunkBytes s book c) e)))) × (costIn (limitsOf s book) true (chunkBytes s book c) (compared name) ≡ n)
+      go : (y : Hit) → findIn (limitsOf s book) (chunkBytes s book c) (compared name) ≡ y → findingOf s book c (costIn (limitsOf s book) Listing (chunkBytes s book c) (compared name)) y ≡ Finding.Found n x
+          → ((e : Place) × ((findIn (limitsOf s book) (chunkBytes s book c) (compared name) ≡ At e) × (x ≡ reportOf book c (entryOf (chunkBytes s book c) e)))) × (costIn (limitsOf s book) Listing (chunkBytes s book c) (compared name) ≡ n)
       go Nothing q r = absurd (let z : _≡_ {A = ℕ} 0 1 = cc in omega arith)
-      go (At e) q r = let z : reportAt s book c e ≡ x = cc in let k : costIn (limitsOf s book) true (chunkBytes s book c) (compared name) ≡ n = cc in ((e, (q, sym z ∙ found-report e q)), k)
+      go (At e) q r = let z : reportAt s book c e ≡ x = cc in let k : costIn (limitsOf s book) Listing (chunkBytes s book c) (compared name) ≡ n = cc in ((e, (q, sym z ∙ found-report e q)), k)
 
-  pub finding-nothing : (n : ℕ) → findingIn s book name c ≡ Finding.Nothing n → (findIn (limitsOf s book) (chunkBytes s book c) (compared name) ≡ Nothing) × (costIn (limitsOf s book) true (chunkBytes s book c) (compared name) ≡ n)
+  pub finding-nothing : (n : ℕ) → findingIn s book name c ≡ Finding.Nothing n → (findIn (limitsOf s book) (chunkBytes s book c) (compared name) ≡ Nothing) × (costIn (limitsOf s book) Listing (chunkBytes s book c) (compared name) ≡ n)
   unfolding findingIn
   finding-nothing n = go (findIn (limitsOf s book) (chunkBytes s book c) (compared name))
     where
-      go : (y : Hit) → findingOf s book c (costIn (limitsOf s book) true (chunkBytes s book c) (compared name)) y ≡ Finding.Nothing n → (y ≡ Nothing) × (costIn (limitsOf s book) true (chunkBytes s book c) (compared name) ≡ n)
-      go Nothing r = let k : costIn (limitsOf s book) true (chunkBytes s book c) (compared name) ≡ n = cc in (refl, k)
+      go : (y : Hit) → findingOf s book c (costIn (limitsOf s book) Listing (chunkBytes s book c) (compared name)) y ≡ Finding.Nothing n → (y ≡ Nothing) × (costIn (limitsOf s book) Listing (chunkBytes s book c) (compared name) ≡ n)
+      go Nothing r = let k : costIn (limitsOf s book) Listing (chunkBytes s book c) (compared name) ≡ n = cc in (refl, k)
       go (At e) r = absurd (let z : _≡_ {A = ℕ} 0 1 = cc in omega arith)
 
   -- what a chunk costs is a number that fits 32 bits, five times over
-  cost-fits : (k : Bool) → costIn (limitsOf s book) k (chunkBytes s book c) (compared name) ≡ costAt s book name c → ((i : ℕ) → getD s i 0 < 256)
+  cost-fits : (k : Kind) → costIn (limitsOf s book) k (chunkBytes s book c) (compared name) ≡ costAt s book name c → ((i : ℕ) → getD s i 0 < 256)
       → costAt s book name c < 0x20000
   cost-fits k q bytes =
       let f = cost-small (limitsOf s book) k (chunkBytes s book c) (compared name) (le-lt (chunkBytes s book c) (chunk-small s book c bytes) 2 4094) in
@@ -94,12 +96,12 @@ module _ (s : List ℕ) (book : Record) (name : List ℕ) (c : ℕ) where
   unfolding directoryOf
   chosen-in h = sym (choose-good (limitsOf s book) (chunkBytes s book c) name (index-chunk (directoryOf s book) (shapeOf book) c h .1))
 
-  pub chosen-cost : indexChunk (directoryOf s book) (shapeOf book) c ≡ true → costIn (limitsOf s book) false (chunkBytes s book c) (compared name) ≡ costAt s book name c
+  pub chosen-cost : indexChunk (directoryOf s book) (shapeOf book) c ≡ true → costIn (limitsOf s book) Index (chunkBytes s book c) (compared name) ≡ costAt s book name c
   unfolding directoryOf limitsOf
-  chosen-cost h = cost-good (limitsOf s book) false (chunkBytes s book c) (compared name) (index-chunk (directoryOf s book) (shapeOf book) c h .1)
+  chosen-cost h = cost-good (limitsOf s book) Index (chunkBytes s book c) (compared name) (index-chunk (directoryOf s book) (shapeOf book) c h .1)
 
   pub chosen-fits : indexChunk (directoryOf s book) (shapeOf book) c ≡ true → ((i : ℕ) → getD s i 0 < 256) → costAt s book name c < 0x20000
-  chosen-fits h bytes = cost-fits false (chosen-cost h) bytes
+  chosen-fits h bytes = cost-fits Index (chosen-cost h) bytes
 
   -- ---- a listing chunk
 
@@ -112,12 +114,12 @@ module _ (s : List ℕ) (book : Record) (name : List ℕ) (c : ℕ) where
         sym (find-good (limitsOf s book) (chunkBytes s book c) name (listing-chunk (directoryOf s book) (shapeOf book) c h .1))
         ∙ ap (soughtOf (chunkBytes s book c)) q
 
-    found-cost : costIn (limitsOf s book) true (chunkBytes s book c) (compared name) ≡ costAt s book name c
+    found-cost : costIn (limitsOf s book) Listing (chunkBytes s book c) (compared name) ≡ costAt s book name c
     unfolding directoryOf limitsOf
-    found-cost = cost-good (limitsOf s book) true (chunkBytes s book c) (compared name) (listing-chunk (directoryOf s book) (shapeOf book) c h .1)
+    found-cost = cost-good (limitsOf s book) Listing (chunkBytes s book c) (compared name) (listing-chunk (directoryOf s book) (shapeOf book) c h .1)
 
     pub found-fits : ((i : ℕ) → getD s i 0 < 256) → costAt s book name c < 0x20000
-    found-fits bytes = cost-fits true found-cost bytes
+    found-fits bytes = cost-fits Listing found-cost bytes
 
     pub search-found : (x : Report) (n : ℕ) → findingIn s book name c ≡ Finding.Found n x → Found n x ≡ searchIn s book name c
     unfolding searchIn

@@ -2,12 +2,13 @@
 -- found is worth.
 -- Assumes nothing.
 use mathlib.Core.Path.{_≡_}
-use mathlib.Core.Bool.{true, false, cond}
+use mathlib.Core.Bool.{true, cond}
 use mathlib.Core.List.{List}
 use Prim.Native.Nat.{ℕ, _+_, _≤_}
 use lib.ListN.{length}
 use Rattle.fields.specs.Part.{part}
 use Rattle.names.specs.Names.{compared, matches}
+use Rattle.entries.specs.declared.Kind.the-variants.{Listing, Index}
 use Rattle.chunk.specs.Chunk.{spacingOf, entriesIn}
 use Rattle.seek.specs.Seek.{Sought, lookup, findIn, chooseIn, childOf}
 use Rattle.seek.specs.Count.{comparisons, costIn}
@@ -32,14 +33,14 @@ findingOf s book c n Hit.Nothing = Finding.Nothing n
 -- the entry of a listing chunk whose name compares equal
 unfoldable pub findingIn : List ℕ → Record → List ℕ → ℕ → Finding
 findingIn s book name c =
-    findingOf s book c (costIn (limitsOf s book) true (chunkBytes s book c) (compared name)) (findIn (limitsOf s book) (chunkBytes s book c) (compared name))
+    findingOf s book c (costIn (limitsOf s book) Listing (chunkBytes s book c) (compared name)) (findIn (limitsOf s book) (chunkBytes s book c) (compared name))
 
 -- where an index chunk leads
 unfoldable pub childIn : List ℕ → Record → List ℕ → ℕ → CountedChild
 childIn s book name c =
     record {
       child = childOf (chooseIn (limitsOf s book) (chunkBytes s book c) (compared name));
-      count = costIn (limitsOf s book) false (chunkBytes s book c) (compared name);
+      count = costIn (limitsOf s book) Index (chunkBytes s book c) (compared name);
     }
 
 -- ---- in a chunk that passes its check

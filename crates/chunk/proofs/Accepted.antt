@@ -1,4 +1,4 @@
--- What a good chunk is, over its bytes (`accepted`), and what its refusal number tells (`refused`, `as-made`).
+-- What a good chunk is, over its bytes: `accepted`, and by its tag and its links `good-made`.
 -- Assumes nothing.
 use mathlib.Core.Path.{_≡_, refl, sym, ap, subst, _∙_}
 use mathlib.Core.List.{List, [], _∷_}
@@ -15,10 +15,10 @@ use Rattle.entries.specs.declared.Limits.{Limits}
 use Rattle.entries.specs.declared.Place.{Place}
 use Rattle.entries.specs.declared.Item.{Item}
 use Rattle.entries.specs.declared.Item.the-variants.{Good, Bad}
+use Rattle.entries.specs.declared.Kind.{Kind}
+use Rattle.entries.specs.declared.Kind.the-variants.{Listing, Index}
 use Rattle.entries.specs.Rising.{rising}
-use Rattle.chunk.specs.Chunk.{Entry, Entries, broken, all, Parsed, bad, listing, index, tagOf, made, push, entryOf, entriesAt, quick, quickCount, headOf, countOf, tailOf, spacingOf, framed, judged, parsedAs, parsed, faultOf, entriesIn, isKind, entryName}
-use Rattle.chunk.specs.Answer.{chunkOf}
-use Rattle.chunk.specs.declared.Chunk.the-variants.{Refused}
+use Rattle.chunk.specs.Chunk.{Entry, Entries, broken, all, Parsed, bad, tagOf, made, push, entryOf, entriesAt, quick, quickCount, headOf, countOf, tailOf, spacingOf, framed, judged, parsedAs, parsed, entriesIn, isKind, entryName, kindOf, isGood}
 
 -- ---- as many entries as were asked for
 
@@ -28,7 +28,7 @@ pushed x broken es d = absurd (let z : _≡_ {A = ℕ} 0 1 = cc in omega arith)
 pushed x (all xs) es d = (xs, refl, (let z : x ∷ xs ≡ es = cc in sym z))
 
 -- the first of some entries was read at their place, and the others behind it
-pub entries-more : (limits : Limits) (k : Bool) (s : List ℕ) (end n at : ℕ) (es : List Entry) → entriesAt limits k s end (suc n) at ≡ all es
+pub entries-more : (limits : Limits) (k : Kind) (s : List ℕ) (end n at : ℕ) (es : List Entry) → entriesAt limits k s end (suc n) at ≡ all es
     → (p : Place) × (xs : List Entry) × (itemAt limits k s at ≡ Good p) × (es ≡ entryOf s p ∷ xs) × (entriesAt limits k s end n (p .next) ≡ all xs)
 unfolding entriesAt
 entries-more limits k s end n at es e = read (itemAt limits k s at) refl e
@@ -40,7 +40,7 @@ entries-more limits k s end n at es e = read (itemAt limits k s at) refl e
         let m = pushed (entryOf s p) (entriesAt limits k s end n (p .next)) es d in
         (p, m .0, g, m .2, m .1)
 
-pub entries-none : (limits : Limits) (k : Bool) (s : List ℕ) (end at : ℕ) (es : List Entry) → entriesAt limits k s end 0 at ≡ all es → es ≡ []
+pub entries-none : (limits : Limits) (k : Kind) (s : List ℕ) (end at : ℕ) (es : List Entry) → entriesAt limits k s end 0 at ≡ all es → es ≡ []
 unfolding entriesAt
 entries-none limits k s end at es e = ended (eqb at end) e
   where
@@ -48,7 +48,7 @@ entries-none limits k s end at es e = ended (eqb at end) e
     ended true d = let z : [] ≡ es = cc in sym z
     ended false d = absurd (let z : _≡_ {A = ℕ} 0 1 = cc in omega arith)
 
-pub entries-count : (limits : Limits) (k : Bool) (s : List ℕ) (end n at : ℕ) (es : List Entry) → entriesAt limits k s end n at ≡ all es → length es ≡ n
+pub entries-count : (limits : Limits) (k : Kind) (s : List ℕ) (end n at : ℕ) (es : List Entry) → entriesAt limits k s end n at ≡ all es → length es ≡ n
 entries-count limits k s end zero at es e = ap length (entries-none limits k s end at es e)
 entries-count limits k s end (suc n) at es e =
     let m = entries-more limits k s end n at es e in
@@ -56,7 +56,7 @@ entries-count limits k s end (suc n) at es e =
 
 -- ---- a good chunk
 
-pub record Accepted (limits : Limits) (k : Bool) (s : List ℕ) (es : List Entry) : Type 0 where
+pub record Accepted (limits : Limits) (k : Kind) (s : List ℕ) (es : List Entry) : Type 0 where
   pub size : length s ≡ 4096
   pub some : 0 < countOf s
   pub tail : tailOf s ≤ 4096
@@ -65,33 +65,33 @@ pub record Accepted (limits : Limits) (k : Bool) (s : List ℕ) (es : List Entry
   pub words : quick s (spacingOf (limits .density)) (headOf k) 0 es ≡ true
 
 -- what is known of p, the meaning of the entries r, where it is of the kind j
-abbrev Judged : ℕ → Bool → Bool → List ℕ → Entries → Parsed → Type 0
+abbrev Judged : ℕ → Kind → Kind → List ℕ → Entries → Parsed → Type 0
 Judged n k j s r p = isKind j p ≡ true → (k ≡ j) × (r ≡ all (entriesIn p)) × (rising entryName [] (entriesIn p) ≡ true) × (quick s n (headOf k) 0 (entriesIn p) ≡ true)
 
-judged-good : (n : ℕ) (k j : Bool) (s : List ℕ) (r : Entries) → Judged n k j s r (judged n k s r)
+judged-good : (n : ℕ) (k j : Kind) (s : List ℕ) (r : Entries) → Judged n k j s r (judged n k s r)
 unfolding judged
 judged-good n k j s broken h = never h
 judged-good n k j s (all es) h = go (rising entryName [] es) (quick s n (headOf k) 0 es) refl refl h
   where
-    kind : (k j : Bool) → isKind j (made k s es) ≡ true → (k ≡ j) × (entriesIn (made k s es) ≡ es)
-    kind true true h = (refl, refl)
-    kind true false h = never h
-    kind false true h = never h
-    kind false false h = (refl, refl)
+    kind : (k j : Kind) → isKind j (made k s es) ≡ true → (k ≡ j) × (entriesIn (made k s es) ≡ es)
+    kind Listing Listing h = (refl, refl)
+    kind Listing Index h = never h
+    kind Index Listing h = never h
+    kind Index Index h = (refl, refl)
 
     go : (a b : Bool) → rising entryName [] es ≡ a → quick s n (headOf k) 0 es ≡ b → Judged n k j s (all es) (cond a (cond b (made k s es) (bad 11)) (bad 12))
     go true true u v h = let g = kind k j h in (g .0, rw (g .1), rw (g .1) u, rw (g .1) v)
     go true false u v h = never h
     go false b u v h = never h
 
-framed-good : (n : ℕ) (k : Bool) (s : List ℕ) → framed n k s ≡ true → (0 < countOf s) × (tailOf s ≤ 4096)
+framed-good : (n : ℕ) (k : Kind) (s : List ℕ) → framed n k s ≡ true → (0 < countOf s) × (tailOf s ≤ 4096)
 unfolding framed
 framed-good n k s h =
     let a = and-both (ltb 0 (countOf s)) (leb (2 + 2 * quickCount n (countOf s)) (tailOf s) && leb (tailOf s) (4096 - headOf k)) h in
     let b = and-both (leb (2 + 2 * quickCount n (countOf s)) (tailOf s)) (leb (tailOf s) (4096 - headOf k)) (a .1) in
     (ltb-true _ _ (a .0), (let l = leb-true (tailOf s) (4096 - headOf k) (b .1) in omega arith))
 
-as-good : (limits : Limits) (k j : Bool) (s : List ℕ) → length s ≡ 4096 → isKind j (parsedAs (spacingOf (limits .density)) limits k s) ≡ true
+as-good : (limits : Limits) (k j : Kind) (s : List ℕ) → length s ≡ 4096 → isKind j (parsedAs (spacingOf (limits .density)) limits k s) ≡ true
     → (k ≡ j) × Accepted limits k s (entriesIn (parsedAs (spacingOf (limits .density)) limits k s))
 unfolding parsedAs
 as-good limits k j s z = go (framed n k s) refl
@@ -110,53 +110,58 @@ as-good limits k j s z = go (framed n k s) refl
         (g .0, record { size = z; some = f .0; tail = f .1; entries = g .1; rises = g .2; words = g .3 })
     go false e h = never h
 
-pub accepted : (limits : Limits) (j : Bool) (s : List ℕ) → isKind j (parsed limits s) ≡ true → Accepted limits j s (entriesIn (parsed limits s))
+pub accepted : (limits : Limits) (j : Kind) (s : List ℕ) → isKind j (parsed limits s) ≡ true → Accepted limits j s (entriesIn (parsed limits s))
 unfolding parsed
-accepted limits j s = go (eqb (length s) 4096) (standsAt s 0 (tagOf true)) (standsAt s 0 (tagOf false)) refl
+accepted limits j s = go (eqb (length s) 4096) (standsAt s 0 (tagOf Listing)) (standsAt s 0 (tagOf Index)) refl
   where
-    whole : Bool → Parsed
+    whole : Kind → Parsed
     whole k = parsedAs (spacingOf (limits .density)) limits k s
 
-    moved : (k : Bool) → length s ≡ 4096 → isKind j (whole k) ≡ true → Accepted limits j s (entriesIn (whole k))
-    moved k z h = let g = as-good limits k j s z h in subst (λ (x : Bool). Accepted limits x s (entriesIn (whole k))) (g .0) (g .1)
+    moved : (k : Kind) → length s ≡ 4096 → isKind j (whole k) ≡ true → Accepted limits j s (entriesIn (whole k))
+    moved k z h = let g = as-good limits k j s z h in subst (λ (x : Kind). Accepted limits x s (entriesIn (whole k))) (g .0) (g .1)
 
-    go : (a b c : Bool) → eqb (length s) 4096 ≡ a → isKind j (cond a (cond b (whole true) (cond c (whole false) (bad 8))) (bad 8)) ≡ true
-        → Accepted limits j s (entriesIn (cond a (cond b (whole true) (cond c (whole false) (bad 8))) (bad 8)))
-    go true true c e h = moved true (eqb-true (length s) 4096 e) h
-    go true false true e h = moved false (eqb-true (length s) 4096 e) h
+    go : (a b c : Bool) → eqb (length s) 4096 ≡ a → isKind j (cond a (cond b (whole Listing) (cond c (whole Index) (bad 8))) (bad 8)) ≡ true
+        → Accepted limits j s (entriesIn (cond a (cond b (whole Listing) (cond c (whole Index) (bad 8))) (bad 8)))
+    go true true c e h = moved Listing (eqb-true (length s) 4096 e) h
+    go true false true e h = moved Index (eqb-true (length s) 4096 e) h
     go true false false e h = never h
     go false b c e h = never h
 
--- ---- what a refusal number tells
+-- ---- a good chunk's kind is what its tag says, and a good listing chunk's links are those that stand in it
 
-pub refused : (p : Parsed) (r : ℕ) → r ≡ faultOf p → (r ≡ 0 → ⊥) → Refused r ≡ chunkOf p
-unfolding faultOf
-refused (bad n) r e h = ap Refused e
-refused (listing a b es) r e h = absurd (h e)
-refused (index es) r e h = absurd (h e)
-
-judged-made : (n : ℕ) (k : Bool) (s : List ℕ) (r : Entries) → faultOf (judged n k s r) ≡ 0 → chunkOf (judged n k s r) ≡ chunkOf (made k s [])
-unfolding judged faultOf
-judged-made n k s broken e = absurd (omega arith)
-judged-made n k s (all es) e = go (rising entryName [] es) (quick s n (headOf k) 0 es) k e
+judged-made : (n : ℕ) (k : Kind) (s : List ℕ) (r : Entries) → isGood (judged n k s r) ≡ true → judged n k s r ≡ made k s (entriesIn (judged n k s r))
+unfolding judged
+judged-made n k s broken h = never h
+judged-made n k s (all es) h = go (rising entryName [] es) (quick s n (headOf k) 0 es) k h
   where
-    go : (a b k : Bool) → faultOf (cond a (cond b (made k s es) (bad 11)) (bad 12)) ≡ 0 → chunkOf (cond a (cond b (made k s es) (bad 11)) (bad 12)) ≡ chunkOf (made k s [])
-    go true true true e = refl
-    go true true false e = refl
-    go true false k e = absurd (omega arith)
-    go false b k e = absurd (omega arith)
+    go : (a b : Bool) (j : Kind) → isGood (cond a (cond b (made j s es) (bad 11)) (bad 12)) ≡ true
+        → cond a (cond b (made j s es) (bad 11)) (bad 12) ≡ made j s (entriesIn (cond a (cond b (made j s es) (bad 11)) (bad 12)))
+    go true true Listing h = refl
+    go true true Index h = refl
+    go true false j h = never h
+    go false b j h = never h
 
-nine : faultOf (bad 9) ≡ 0 → ⊥
-unfolding faultOf
-nine e = omega arith
-
-pub as-made : (n : ℕ) (limits : Limits) (k : Bool) (s : List ℕ) → faultOf (parsedAs n limits k s) ≡ 0 → chunkOf (made k s []) ≡ chunkOf (parsedAs n limits k s)
+as-made : (n : ℕ) (limits : Limits) (k : Kind) (s : List ℕ) → isGood (parsedAs n limits k s) ≡ true → parsedAs n limits k s ≡ made k s (entriesIn (parsedAs n limits k s))
 unfolding parsedAs
 as-made n limits k s = go (framed n k s)
   where
     j : Parsed
     j = judged n k s (entriesAt limits k s (4096 - tailOf s) (countOf s) (headOf k))
 
-    go : (t : Bool) → faultOf (cond t j (bad 9)) ≡ 0 → chunkOf (made k s []) ≡ chunkOf (cond t j (bad 9))
-    go true e = sym (judged-made n k s _ e)
-    go false e = absurd (nine e)
+    go : (t : Bool) → isGood (cond t j (bad 9)) ≡ true → cond t j (bad 9) ≡ made k s (entriesIn (cond t j (bad 9)))
+    go true h = judged-made n k s _ h
+    go false h = never h
+
+pub good-made : (limits : Limits) (s : List ℕ) → isGood (parsed limits s) ≡ true → parsed limits s ≡ made (kindOf s) s (entriesIn (parsed limits s))
+unfolding parsed
+good-made limits s = go (eqb (length s) 4096) (standsAt s 0 (tagOf Listing)) (standsAt s 0 (tagOf Index))
+  where
+    whole : Kind → Parsed
+    whole k = parsedAs (spacingOf (limits .density)) limits k s
+
+    go : (a b c : Bool) → isGood (cond a (cond b (whole Listing) (cond c (whole Index) (bad 8))) (bad 8)) ≡ true
+        → cond a (cond b (whole Listing) (cond c (whole Index) (bad 8))) (bad 8) ≡ made (cond b Listing Index) s (entriesIn (cond a (cond b (whole Listing) (cond c (whole Index) (bad 8))) (bad 8)))
+    go true true c h = as-made _ limits Listing s h
+    go true false true h = as-made _ limits Index s h
+    go true false false h = never h
+    go false b c h = never h

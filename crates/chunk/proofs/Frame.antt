@@ -2,25 +2,27 @@
 -- Assumes nothing.
 use mathlib.Core.Path.{_≡_, refl}
 use mathlib.Core.List.{List}
-use mathlib.Core.Bool.{Bool, true, false, cond, _&&_}
+use mathlib.Core.Bool.{cond, _&&_}
 use Prim.Native.Nat.{ℕ, _+_, _-_, _*_, _≤_, _<_, min}
 use native.Mathlib.Omega.{arith}
 use lib.Dec.{ltb, leb}
 use Rattle.entries.specs.declared.Limits.{Limits}
+use Rattle.entries.specs.declared.Kind.{Kind}
+use Rattle.entries.specs.declared.Kind.the-variants.{Listing, Index}
 use Rattle.chunk.specs.Chunk.{Entries, broken, all, bad, entriesAt, headOf, countOf, quickCount, tailOf, spacingOf, framed, judged, parsedAs}
 use Rattle.chunk.proofs.Accepted.{entries-count}
 use Rattle.chunk.proofs.Quick.{Alike, quick-alike, capped}
 
-pub head-small : (k : Bool) → headOf k ≤ 20
-head-small true = omega arith
-head-small false = omega arith
+pub head-small : (k : Kind) → headOf k ≤ 20
+head-small Listing = omega arith
+head-small Index = omega arith
 
-pub framed-as : (limits : Limits) (k : Bool) (s : List ℕ) (n c q t h : ℕ) → c ≡ countOf s → q ≡ quickCount n c → t ≡ tailOf s → h ≡ headOf k
+pub framed-as : (limits : Limits) (k : Kind) (s : List ℕ) (n c q t h : ℕ) → c ≡ countOf s → q ≡ quickCount n c → t ≡ tailOf s → h ≡ headOf k
     → parsedAs n limits k s ≡ cond (ltb 0 c && (leb (2 + 2 * q) t && leb t (4096 - h))) (judged n k s (entriesAt limits k s (4096 - t) c (headOf k))) (bad 9)
 unfolding parsedAs framed
 framed-as limits k s n c q t h ec eq et eh = rw (eq, ec, et, eh) refl
 
-module _ (n m : ℕ) (same : Alike n m) (limits : Limits) (k : Bool) (s : List ℕ) (small : countOf s < 65536) where
+module _ (n m : ℕ) (same : Alike n m) (limits : Limits) (k : Kind) (s : List ℕ) (small : countOf s < 65536) where
   judged-alike : (end : ℕ) (r : Entries) → entriesAt limits k s end (countOf s) (headOf k) ≡ r → judged n k s r ≡ judged m k s r
   unfolding judged
   judged-alike end broken e = refl
@@ -33,6 +35,6 @@ module _ (n m : ℕ) (same : Alike n m) (limits : Limits) (k : Bool) (s : List �
   parsed-alike =
       rw (same .words (countOf s - 1) (omega arith), judged-alike (4096 - tailOf s) (entriesAt limits k s (4096 - tailOf s) (countOf s) (headOf k)) refl)
 
-pub parsed-capped : (limits : Limits) (k : Bool) (s : List ℕ) → countOf s < 65536
+pub parsed-capped : (limits : Limits) (k : Kind) (s : List ℕ) → countOf s < 65536
     → parsedAs (spacingOf (min (limits .density) 16)) limits k s ≡ parsedAs (spacingOf (limits .density)) limits k s
 parsed-capped limits k s small = parsed-alike _ _ (capped (limits .density)) limits k s small

@@ -1,6 +1,6 @@
 -- The pass over the entries of a chunk, as its loop has it: the entries that are left, with what is known of those that were passed.
---     outcome     the refusal number of the chunk, from the flags, the index and the name so far, and the entries that are left
---     at-start    before the first entry it is the chunk's own refusal number
+--     outcome     the answer on the chunk, from the flags, the index and the name so far, and the entries that are left
+--     at-start    before the first entry it is the chunk's own answer
 --     turn        an entry that was read moves it on
 --     turn-bad    what is no entry settles it
 --     at-end      behind the last entry it is read off the flags
@@ -16,24 +16,29 @@ use Rattle.entries.specs.Entry.{itemAt, nameOf}
 use Rattle.entries.specs.declared.Limits.{Limits}
 use Rattle.entries.specs.declared.Place.{Place}
 use Rattle.entries.specs.declared.Item.the-variants.{Good, Bad}
+use Rattle.entries.specs.declared.Kind.{Kind}
+use Rattle.entries.specs.declared.Kind.the-variants.{Listing, Index}
 use Rattle.entries.specs.Rising.{rising}
-use Rattle.chunk.specs.Chunk.{Entry, Entries, broken, all, bad, made, push, entryOf, entriesAt, quick, quickAt, headOf, judged, faultOf, entryName}
+use Rattle.chunk.specs.Chunk.{Entry, Entries, broken, all, bad, made, push, entryOf, entriesAt, quick, quickAt, headOf, judged, entryName}
+use Rattle.chunk.specs.Answer.{chunkOf}
+use Rattle.chunk.specs.declared.Chunk.{Chunk}
+use Rattle.chunk.specs.declared.Chunk.the-variants.{Refused}
 
-module _ (n : ℕ) (k : Bool) (s : List ℕ) where
-  unfoldable pub outcome : Bool → Bool → ℕ → List ℕ → Entries → ℕ
-  outcome o q i last broken = 10
-  outcome o q i last (all es) = cond (o && rising entryName last es) (cond (q && quick s n (headOf k) i es) 0 11) 12
+module _ (n : ℕ) (k : Kind) (s : List ℕ) where
+  unfoldable pub outcome : Bool → Bool → ℕ → List ℕ → Entries → Chunk
+  outcome o q i last broken = Refused 10
+  outcome o q i last (all es) = cond (o && rising entryName last es) (cond (q && quick s n (headOf k) i es) (chunkOf (made k s [])) (Refused 11)) (Refused 12)
 
-  pub at-start : (r : Entries) → outcome true true 0 [] r ≡ faultOf (judged n k s r)
-  unfolding outcome judged faultOf
+  pub at-start : (r : Entries) → outcome true true 0 [] r ≡ chunkOf (judged n k s r)
+  unfolding outcome judged
   at-start broken = refl
   at-start (all es) = go (rising entryName [] es) (quick s n (headOf k) 0 es) k
     where
-      go : (a b c : Bool) → cond a (cond b 0 11) 12 ≡ faultOf (cond a (cond b (made c s es) (bad 11)) (bad 12))
-      go true true true = refl
-      go true true false = refl
-      go true false c = refl
-      go false b c = refl
+      go : (a b : Bool) (j : Kind) → cond a (cond b (chunkOf (made j s [])) (Refused 11)) (Refused 12) ≡ chunkOf (cond a (cond b (made j s es) (bad 11)) (bad 12))
+      go true true Listing = refl
+      go true true Index = refl
+      go true false j = refl
+      go false b j = refl
 
   pushed : (o q : Bool) (i : ℕ) (last : List ℕ) (e : Entry) (r : Entries)
       → outcome o q i last (push e r) ≡ outcome (o && below last (e .name)) (q && quickAt s n (headOf k) i (e .at)) (i + 1) (e .name) r
@@ -52,15 +57,15 @@ module _ (n : ℕ) (k : Bool) (s : List ℕ) where
     unfolding entriesAt
     turn e h g = ap (outcome o q i last) (some-left h) ∙ rw g (pushed o q i last (entryOf s e) (entriesAt limits k s end (left - 1) (e .next)))
 
-    pub turn-bad : 0 < left → itemAt limits k s at ≡ Bad → 10 ≡ outcome o q i last (entriesAt limits k s end left at)
+    pub turn-bad : 0 < left → itemAt limits k s at ≡ Bad → Refused 10 ≡ outcome o q i last (entriesAt limits k s end left at)
     unfolding entriesAt outcome
     turn-bad h g = sym (ap (outcome o q i last) (some-left h) ∙ rw g refl)
 
-    pub at-end : left ≤ 0 → outcome o q i last (entriesAt limits k s end left at) ≡ cond (eqb at end) (cond o (cond q 0 11) 12) 10
+    pub at-end : left ≤ 0 → outcome o q i last (entriesAt limits k s end left at) ≡ cond (eqb at end) (cond o (cond q (chunkOf (made k s [])) (Refused 11)) (Refused 12)) (Refused 10)
     unfolding entriesAt outcome rising quick
     at-end h = let z : left ≡ 0 = omega arith in rw z (go (eqb at end) o q)
       where
-        go : (a b c : Bool) → outcome b c i last (cond a (all []) broken) ≡ cond a (cond b (cond c 0 11) 12) 10
+        go : (a b c : Bool) → outcome b c i last (cond a (all []) broken) ≡ cond a (cond b (cond c (chunkOf (made k s [])) (Refused 11)) (Refused 12)) (Refused 10)
         go true true true = refl
         go true true false = refl
         go true false c = refl

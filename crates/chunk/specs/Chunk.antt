@@ -2,7 +2,7 @@
 -- Assumes nothing.
 use Prim.Native.Nat.{ℕ, zero, suc, _+_, _-_, _*_, _/_, _%_, _^_}
 use mathlib.Core.List.{List, [], _∷_}
-use mathlib.Core.Bool.{Bool, true, false, cond, not, _&&_, _||_}
+use mathlib.Core.Bool.{Bool, true, false, cond, _&&_, _||_}
 use lib.ListN.{length}
 use lib.Dec.{ltb, leb, eqb}
 use Rattle.fields.specs.Le.{le}
@@ -11,6 +11,8 @@ use Rattle.entries.specs.Entry.{withItem, itemAt, nameOf}
 use Rattle.entries.specs.Rising.{rising}
 use Rattle.entries.specs.declared.Limits.{Limits}
 use Rattle.entries.specs.declared.Place.{Place}
+use Rattle.entries.specs.declared.Kind.{Kind}
+use Rattle.entries.specs.declared.Kind.the-variants.{Listing, Index}
 
 -- ---- what a chunk can mean
 
@@ -34,25 +36,40 @@ pub data Parsed : Type 0 where
   listing : ℕ → ℕ → List Entry → Parsed
   index : List Entry → Parsed
 
--- ---- the fixed parts; the kind of a chunk is true for listing, false for index
+-- ---- the fixed parts
 
--- `PMGL` and `PMGI`
-abbrev pub tagOf : Bool → List ℕ
-tagOf true = 0x50 ∷ 0x4D ∷ 0x47 ∷ 0x4C ∷ []
-tagOf false = 0x50 ∷ 0x4D ∷ 0x47 ∷ 0x49 ∷ []
+-- `PMGL` and `PMGI` (C1, C2)
+abbrev pub tagOf : Kind → List ℕ
+tagOf Listing = 0x50 ∷ 0x4D ∷ 0x47 ∷ 0x4C ∷ []
+tagOf Index = 0x50 ∷ 0x4D ∷ 0x47 ∷ 0x49 ∷ []
 
--- the length of the header
-abbrev pub headOf : Bool → ℕ
-headOf true = 20
-headOf false = 8
+-- the kind of a chunk that is of one of the two
+abbrev pub kindOf : List ℕ → Kind
+kindOf s = cond (standsAt s 0 (tagOf Listing)) Listing Index
 
--- the count of entries: the chunk's last 16 bits
+-- the length of the header, behind which the first entry stands (C1, C2, C3)
+abbrev pub headOf : Kind → ℕ
+headOf Listing = 20
+headOf Index = 8
+
+-- where the count of entries stands: the chunk's last 16 bits (C4)
+abbrev pub countPlace : ℕ
+countPlace = 4094
+
+-- the count of entries
 abbrev pub countOf : List ℕ → ℕ
-countOf s = le 2 s 4094
+countOf s = le 2 s countPlace
 
 -- the length of the tail
 abbrev pub tailOf : List ℕ → ℕ
 tailOf s = le 4 s 4
+
+-- of a listing chunk, the number of the one before it and of the one behind it (C1)
+abbrev pub previousLink : List ℕ → ℕ
+previousLink s = le 4 s 12
+
+abbrev pub nextLink : List ℕ → ℕ
+nextLink s = le 4 s 16
 
 -- how many entries there are from one that has a quick word to the next
 abbrev pub spacingOf : ℕ → ℕ
@@ -63,7 +80,7 @@ abbrev pub quickCount : ℕ → ℕ → ℕ
 quickCount n c = (c - 1) / n
 
 -- there is an entry; the tail has room for the count and the quick words, and leaves room for the header: refusal 9
-unfoldable pub framed : ℕ → Bool → List ℕ → Bool
+unfoldable pub framed : ℕ → Kind → List ℕ → Bool
 framed n k s = ltb 0 (countOf s) && (leb (2 + 2 * quickCount n (countOf s)) (tailOf s) && leb (tailOf s) (4096 - headOf k))
 
 -- ---- the entries: refusal 10
@@ -83,15 +100,18 @@ push e broken = broken
 push e (all es) = all (e ∷ es)
 
 -- n entries one behind another from a place on, the last of which ends at `end`
-unfoldable pub entriesAt : Limits → Bool → List ℕ → ℕ → ℕ → ℕ → Entries
+unfoldable pub entriesAt : Limits → Kind → List ℕ → ℕ → ℕ → ℕ → Entries
 entriesAt limits k s end zero at = cond (eqb at end) (all []) broken
 entriesAt limits k s end (suc n) at = withItem (itemAt limits k s at) broken (λ e. push (entryOf s e) (entriesAt limits k s end n (e .next)))
 
 -- ---- the quick words: refusal 11
 
--- word k, from 1 on: backward from the chunk's end, two bytes apart
+-- where word k stands, from 1 on: backward from the count, two bytes apart (C7)
+abbrev pub quickPlace : ℕ → ℕ
+quickPlace k = countPlace - 2 * k
+
 abbrev pub quickWord : List ℕ → ℕ → ℕ
-quickWord s k = le 2 s (4094 - 2 * k)
+quickWord s k = le 2 s (quickPlace k)
 
 -- entry i, which stands at a place, has a quick word where i is a multiple of n other than 0: word i / n, its distance from the first entry
 unfoldable pub quickAt : List ℕ → ℕ → ℕ → ℕ → ℕ → Bool
@@ -108,17 +128,17 @@ quick s n first i (e ∷ es) = quickAt s n first i (e .at) && quick s n first (i
 
 -- ---- a whole chunk: the checks in their order, 8, 9, 10, 12, 11
 
-abbrev pub made : Bool → List ℕ → List Entry → Parsed
-made true s es = listing (le 4 s 12) (le 4 s 16) es
-made false s es = index es
+abbrev pub made : Kind → List ℕ → List Entry → Parsed
+made Listing s es = listing (previousLink s) (nextLink s) es
+made Index s es = index es
 
 -- entries that were read, by the rules on all of them: their names rise, refusal 12, and their quick words are right, refusal 11
-unfoldable pub judged : ℕ → Bool → List ℕ → Entries → Parsed
+unfoldable pub judged : ℕ → Kind → List ℕ → Entries → Parsed
 judged n k s broken = bad 10
 judged n k s (all es) = cond (rising entryName [] es) (cond (quick s n (headOf k) 0 es) (made k s es) (bad 11)) (bad 12)
 
 -- a chunk of 4,096 bytes of a known kind, with n entries from one quick word to the next
-unfoldable pub parsedAs : ℕ → Limits → Bool → List ℕ → Parsed
+unfoldable pub parsedAs : ℕ → Limits → Kind → List ℕ → Parsed
 parsedAs n limits k s =
     cond (framed n k s) (judged n k s (entriesAt limits k s (4096 - tailOf s) (countOf s) (headOf k))) (bad 9)
 
@@ -126,18 +146,18 @@ parsedAs n limits k s =
 unfoldable pub parsed : Limits → List ℕ → Parsed
 parsed limits s =
     cond (eqb (length s) 4096)
-    (cond (standsAt s 0 (tagOf true)) (parsedAs (spacingOf (limits .density)) limits true s)
-    (cond (standsAt s 0 (tagOf false)) (parsedAs (spacingOf (limits .density)) limits false s)
+    (cond (standsAt s 0 (tagOf Listing)) (parsedAs (spacingOf (limits .density)) limits Listing s)
+    (cond (standsAt s 0 (tagOf Index)) (parsedAs (spacingOf (limits .density)) limits Index s)
     (bad 8)))
     (bad 8)
 
 -- ---- what is asked of a parsed chunk
 
--- the number of the refusal, 0 for a good chunk
-unfoldable pub faultOf : Parsed → ℕ
-faultOf (bad n) = n
-faultOf (listing p n es) = 0
-faultOf (index es) = 0
+-- it passed its checks
+abbrev pub isGood : Parsed → Bool
+isGood (bad n) = false
+isGood (listing p n es) = true
+isGood (index es) = true
 
 -- the entries; a refused chunk has none
 abbrev pub entriesIn : Parsed → List Entry
@@ -146,7 +166,9 @@ entriesIn (listing p n es) = es
 entriesIn (index es) = es
 
 -- it is good, and of the kind k
-abbrev pub isKind : Bool → Parsed → Bool
+abbrev pub isKind : Kind → Parsed → Bool
 isKind k (bad n) = false
-isKind k (listing p n es) = k
-isKind k (index es) = not k
+isKind Listing (listing p n es) = true
+isKind Listing (index es) = false
+isKind Index (listing p n es) = false
+isKind Index (index es) = true

@@ -1,13 +1,16 @@
 // The check of one chunk by itself: refusals 8 to 12, in one pass over its entries.
 ghost use mathlib.Core.Path.{_≡_};
+ghost use mathlib.Core.List.{[]};
 ghost use mathlib.Core.Bool.{_&&_};
 ghost use Prim.Native.Nat.{ℕ, _+_, _-_, _*_, _/_, _%_, _<_, _≤_, min};
 ghost use lib.ListN.{length};
 ghost use Rattle.fields.specs.Part.{part};
 ghost use Rattle.names.specs.Names.{below};
-ghost use Rattle.chunk.specs.Chunk.{headOf, spacingOf, quickCount, markRight, entriesAt, judged, parsedAs, parsed, faultOf};
+ghost use Rattle.fields.specs.Same.{standsAt};
+ghost use Rattle.chunk.specs.Chunk.{tagOf, kindOf, headOf, countOf, previousLink, nextLink, quickPlace, spacingOf, quickCount, markRight, entriesAt, made, judged, parsedAs, parsed};
 ghost use Rattle.chunk.specs.Answer.{chunkOf};
 use entries::Item;
+use entries::Kind;
 use entries::Limits;
 
 // What a chunk is: refused with a number from 8 to 12, a listing chunk with the numbers of the one before and the one behind it, or an index chunk.
@@ -17,17 +20,79 @@ pub enum Chunk {
     Index,
 }
 
+// The tags of both kinds as numbers of 32 bits.
+pub const LISTING_TAG: u32 = 0x4C47_4D50;
+
+pub const INDEX_TAG: u32 = 0x4947_4D50;
+
+// Where the number of entries stands.
+pub const COUNT_PLACE: usize = 4094;
+
 // An entry's index as a number of quick words, and how many entries it stands behind the last that has one.
 struct Mark {
     word: usize,
     past: usize,
 }
 
-// The length of a chunk's header.
-pub fn head(listing: bool) -> usize
-    ensures { λ r. ⌜ r ≡ headOf listing ⌝ }
+// Whether the tag of a kind stands at the beginning.
+fn has_tag(c: &[u8], kind: Kind) -> bool
+    ensures { λ r. ⌜ r ≡ standsAt (now (c .entry)) 0 (tagOf kind) ⌝ }
 {
-    if listing { 20 } else { 8 }
+    match kind {
+        Kind::Listing => fields::stands_at(c, 0, b"PMGL"),
+        Kind::Index => fields::stands_at(c, 0, b"PMGI"),
+    }
+}
+
+// The kind of a chunk that is of one of the two, by its tag.
+pub fn kind_of(c: &[u8]) -> Kind
+    ensures { λ r. ⌜ r ≡ kindOf (now (c .entry)) ⌝ }
+{
+    if has_tag(c, Kind::Listing) {
+        return Kind::Listing;
+    }
+    Kind::Index
+}
+
+// Where the first entry stands, which is behind the header.
+pub fn first_place(kind: Kind) -> usize
+    ensures { λ r. ⌜ r ≡ headOf kind ⌝ }
+{
+    match kind {
+        Kind::Listing => 20,
+        Kind::Index => 8,
+    }
+}
+
+// The number of entries, as stored.
+pub fn entry_count(c: &[u8]) -> u16
+    ensures { λ r. ⌜ r ≡ countOf (now (c .entry)) ⌝ }
+{
+    fields::le16(c, COUNT_PLACE)
+}
+
+// The number of the listing chunk before this one, as stored.
+pub fn previous_link(c: &[u8]) -> u32
+    ensures { λ r. ⌜ r ≡ previousLink (now (c .entry)) ⌝ }
+{
+    fields::le32(c, 12)
+}
+
+// The number of the listing chunk behind this one, as stored.
+pub fn next_link(c: &[u8]) -> u32
+    ensures { λ r. ⌜ r ≡ nextLink (now (c .entry)) ⌝ }
+{
+    fields::le32(c, 16)
+}
+
+// Where quick word k stands.
+pub fn quick_place(k: usize) -> usize
+    ensures { λ r. ⌜ r ≡ quickPlace k ⌝ }
+{
+    if 2047 < k {
+        return 0;
+    }
+    COUNT_PLACE - 2 * k
 }
 
 // The number of entries from one that has a quick word to the next. From density 16 on it is above every count of 16 bits, so that there is no quick word.
@@ -81,7 +146,7 @@ fn still_rises(c: &[u8], rises: bool, from: usize, len: usize, start: usize, n: 
 
 // Whether the quick words were right so far, and the entry at this mark stands where its own says, if it has one.
 fn still_quick(c: &[u8], quick: bool, first: usize, m: Mark, at: usize) -> bool
-    requires { ⌜ (2 * m .word ≤ 4094) × (first ≤ 20) ⌝ }
+    requires { ⌜ first ≤ 20 ⌝ }
     ensures { λ r. ⌜ r ≡ (quick && markRight (now (c .entry)) first (m .word) (m .past) at) ⌝ }
 {
     if quick {
@@ -91,18 +156,28 @@ fn still_quick(c: &[u8], quick: bool, first: usize, m: Mark, at: usize) -> bool
         if m.word == 0 {
             return true;
         }
-        let word = fields::le16(c, 4094 - 2 * m.word) as usize;
+        let word = fields::le16(c, quick_place(m.word)) as usize;
         return first + word == at;
     }
     false
 }
 
-// Refusal 10, 12 or 11 of `total` entries that have to end at `end`, or 0. The walk goes on past a fault of order or of a quick word, since 10 comes first.
-fn fault_in(c: &[u8], limits: Limits, listing: bool, n: usize, total: usize, end: usize) -> u8
-    requires { ⌜ (0 < n) × (2 * ((total - 1) / n) ≤ 4094) ⌝ }
-    ensures { λ r. ⌜ r ≡ faultOf (judged n listing (now (c .entry)) (entriesAt limits listing (now (c .entry)) end total (headOf listing))) ⌝ }
+// The answer on a chunk that keeps every rule.
+fn good_chunk(c: &[u8], kind: Kind) -> Chunk
+    ensures { λ r. ⌜ r ≡ chunkOf (made kind (now (c .entry)) []) ⌝ }
 {
-    let first = head(listing);
+    match kind {
+        Kind::Listing => Chunk::Listing(previous_link(c), next_link(c)),
+        Kind::Index => Chunk::Index,
+    }
+}
+
+// The answer by `total` entries that have to end at `end`: refusal 10, 12 or 11, in this order. So the walk goes on past a fault of order or of a quick word.
+fn check_entries(c: &[u8], limits: Limits, kind: Kind, n: usize, total: usize, end: usize) -> Chunk
+    requires { ⌜ (0 < n) × (2 * ((total - 1) / n) ≤ 4094) ⌝ }
+    ensures { λ r. ⌜ r ≡ chunkOf (judged n kind (now (c .entry)) (entriesAt limits kind (now (c .entry)) end total (headOf kind))) ⌝ }
+{
+    let first = first_place(kind);
     let mut at = first;
     let mut from: usize = 0;
     let mut len: usize = 0;
@@ -111,8 +186,8 @@ fn fault_in(c: &[u8], limits: Limits, listing: bool, n: usize, total: usize, end
     let mut m = Mark { word: 0, past: 0 };
     let mut left = total;
     while 0 < left {
-        let Item::Good(e) = entries::item_at(c, limits, listing, at) else {
-            return 10;
+        let Item::Good(e) = entries::item_at(c, limits, kind, at) else {
+            return Chunk::Refused(10);
         };
         rises = still_rises(c, rises, from, len, e.start, e.len);
         quick = still_quick(c, quick, first, m, e.at);
@@ -123,35 +198,35 @@ fn fault_in(c: &[u8], limits: Limits, listing: bool, n: usize, total: usize, end
         left -= 1;
     }
     if at != end {
-        return 10;
+        return Chunk::Refused(10);
     }
     if !rises {
-        return 12;
+        return Chunk::Refused(12);
     }
     if !quick {
-        return 11;
+        return Chunk::Refused(11);
     }
-    0
+    good_chunk(c, kind)
 }
 
-// The refusal of a chunk of 4,096 bytes with a known tag, 9 to 12, or 0.
-fn fault_as(c: &[u8], limits: Limits, listing: bool) -> u8
+// The answer on a chunk of 4,096 bytes that has the tag of a kind.
+fn check_kind(c: &[u8], limits: Limits, kind: Kind) -> Chunk
     requires { ⌜ length (now c) ≡ 4096 ⌝ }
-    ensures { λ r. ⌜ r ≡ faultOf (parsedAs (spacingOf (limits .density)) limits listing (now (c .entry))) ⌝ }
+    ensures { λ r. ⌜ r ≡ chunkOf (parsedAs (spacingOf (limits .density)) limits kind (now (c .entry))) ⌝ }
 {
     let n = spacing(limits.density);
-    let total = fields::le16(c, 4094) as usize;
+    let total = entry_count(c) as usize;
     let tail = fields::le32(c, 4) as usize;
     if total < 1 {
-        return 9;
+        return Chunk::Refused(9);
     }
     if tail < 2 + 2 * quick_words(total, n) {
-        return 9;
+        return Chunk::Refused(9);
     }
-    if 4096 - head(listing) < tail {
-        return 9;
+    if 4096 - first_place(kind) < tail {
+        return Chunk::Refused(9);
     }
-    fault_in(c, limits, listing, n, total, 4096 - tail)
+    check_entries(c, limits, kind, n, total, 4096 - tail)
 }
 
 // What a chunk is.
@@ -161,19 +236,11 @@ pub fn check(c: &[u8], limits: Limits) -> Chunk
     if c.len() != 4096 {
         return Chunk::Refused(8);
     }
-    if fields::stands_at(c, 0, b"PMGL") {
-        let r = fault_as(c, limits, true);
-        if r != 0 {
-            return Chunk::Refused(r);
-        }
-        return Chunk::Listing(fields::le32(c, 12), fields::le32(c, 16));
+    if has_tag(c, Kind::Listing) {
+        return check_kind(c, limits, Kind::Listing);
     }
-    if fields::stands_at(c, 0, b"PMGI") {
-        let r = fault_as(c, limits, false);
-        if r != 0 {
-            return Chunk::Refused(r);
-        }
-        return Chunk::Index;
+    if has_tag(c, Kind::Index) {
+        return check_kind(c, limits, Kind::Index);
     }
     Chunk::Refused(8)
 }

@@ -2,6 +2,7 @@
 // the refusal's number, or what the chunk is, and then the places of some entries by index, of the last one, and of those that some names find; for an
 // index chunk the children to which they lead.
 use chunk::Chunk;
+use entries::Kind;
 use entries::Limits;
 use libc::STDOUT_FILENO;
 use seek::Child;
@@ -30,35 +31,38 @@ fn child(d: Child) {
     }
 }
 
-fn sought(c: &[u8], limits: Limits, listing: bool, name: &[u8]) {
-    if listing {
-        let found = seek::find(c, limits, name);
-        let hit = found.hit;
-        place(hit);
-    } else {
-        let chosen = seek::choose(c, limits, name);
-        let below = chosen.child;
-        child(below);
+fn sought(c: &[u8], limits: Limits, kind: Kind, name: &[u8]) {
+    match kind {
+        Kind::Listing => {
+            let found = seek::find(c, limits, name);
+            let hit = found.hit;
+            place(hit);
+        }
+        Kind::Index => {
+            let chosen = seek::choose(c, limits, name);
+            let below = chosen.child;
+            child(below);
+        }
     }
 }
 
-fn searches(c: &[u8], limits: Limits, listing: bool) {
+fn searches(c: &[u8], limits: Limits, kind: Kind) {
     io::write_all(STDOUT_FILENO, b" :");
-    place(seek::first_entry(c, limits, listing));
-    place(seek::nth_entry(c, limits, listing, 4));
-    place(seek::nth_entry(c, limits, listing, 5));
-    place(seek::nth_entry(c, limits, listing, 9));
-    place(seek::nth_entry(c, limits, listing, 10));
-    place(seek::nth_entry(c, limits, listing, 65535));
-    place(seek::last_entry(c, limits, listing));
+    place(seek::first_entry(c, limits, kind));
+    place(seek::nth_entry(c, limits, kind, 4));
+    place(seek::nth_entry(c, limits, kind, 5));
+    place(seek::nth_entry(c, limits, kind, 9));
+    place(seek::nth_entry(c, limits, kind, 10));
+    place(seek::nth_entry(c, limits, kind, 65535));
+    place(seek::last_entry(c, limits, kind));
     io::write_all(STDOUT_FILENO, b" :");
-    sought(c, limits, listing, b"/");
-    sought(c, limits, listing, b"/000");
-    sought(c, limits, listing, b"/005XX");
-    sought(c, limits, listing, b"/005");
-    sought(c, limits, listing, b"/9");
-    sought(c, limits, listing, b"/Z");
-    sought(c, limits, listing, b"/a.HTM");
+    sought(c, limits, kind, b"/");
+    sought(c, limits, kind, b"/000");
+    sought(c, limits, kind, b"/005XX");
+    sought(c, limits, kind, b"/005");
+    sought(c, limits, kind, b"/9");
+    sought(c, limits, kind, b"/Z");
+    sought(c, limits, kind, b"/a.HTM");
 }
 
 fn report(c: &[u8], limits: Limits) {
@@ -70,13 +74,13 @@ fn report(c: &[u8], limits: Limits) {
             io::write_all(STDOUT_FILENO, b"L");
             number(previous as u64);
             number(next as u64);
-            number(fields::le16(c, 4094) as u64);
-            searches(c, limits, true);
+            number(chunk::entry_count(c) as u64);
+            searches(c, limits, Kind::Listing);
         }
         Chunk::Index => {
             io::write_all(STDOUT_FILENO, b"I");
-            number(fields::le16(c, 4094) as u64);
-            searches(c, limits, false);
+            number(chunk::entry_count(c) as u64);
+            searches(c, limits, Kind::Index);
         }
     }
     io::write_all(STDOUT_FILENO, b"\n");

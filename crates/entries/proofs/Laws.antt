@@ -20,6 +20,8 @@ use Rattle.entries.specs.declared.Limits.{Limits}
 use Rattle.entries.specs.declared.Place.{Place}
 use Rattle.entries.specs.declared.Item.{Item}
 use Rattle.entries.specs.declared.Item.the-variants.{Good}
+use Rattle.entries.specs.declared.Kind.{Kind}
+use Rattle.entries.specs.declared.Kind.the-variants.{Listing, Index}
 
 -- ---- what was there is taken apart
 
@@ -157,21 +159,21 @@ index-inside count s at e q =
     let x = encint-next s (e .start + e .len) (a .child) in
     named-inside s at e (a .same) (a .name) (x .0) (x .1)
 
-pub item-inside : (limits : Limits) (k : Bool) (s : List ℕ) (at : ℕ) (e : Place) → itemAt limits k s at ≡ Good e → Inside s at e
+pub item-inside : (limits : Limits) (k : Kind) (s : List ℕ) (at : ℕ) (e : Place) → itemAt limits k s at ≡ Good e → Inside s at e
 unfolding itemAt
-item-inside limits true s at e q = listing-inside (limits .content) s at e q
-item-inside limits false s at e q = index-inside (limits .count) s at e q
+item-inside limits Listing s at e q = listing-inside (limits .content) s at e q
+item-inside limits Index s at e q = index-inside (limits .count) s at e q
 
 -- ---- an entry, its name read first
 
-module _ (limits : Limits) (k : Bool) (s : List ℕ) (at : ℕ) where
+module _ (limits : Limits) (k : Kind) (s : List ℕ) (at : ℕ) where
   pub item-unnamed : nameAt s at ≡ Bad → itemAt limits k s at ≡ Item.Bad
   unfolding itemAt listingAt indexAt
   item-unnamed q = go k
     where
-      go : (k : Bool) → itemAt limits k s at ≡ Item.Bad
-      go true = rw q refl
-      go false = rw q refl
+      go : (k : Kind) → itemAt limits k s at ≡ Item.Bad
+      go Listing = rw q refl
+      go Index = rw q refl
 
   pub item-named : (n p : ℕ) (e : Place) → nameAt s at ≡ Value n p → itemAt limits k s at ≡ Good e → nameOf s e ≡ part s p n
   item-named n p e q g =
@@ -182,16 +184,16 @@ module _ (limits : Limits) (k : Bool) (s : List ℕ) (at : ℕ) where
 
 -- an index entry, its child behind its name
 module _ (limits : Limits) (s : List ℕ) (at n p : ℕ) (q : nameAt s at ≡ Value n p) where
-  pub index-broken : encintAt s (p + n) ≡ Bad → itemAt limits false s at ≡ Item.Bad
+  pub index-broken : encintAt s (p + n) ≡ Bad → itemAt limits Index s at ≡ Item.Bad
   unfolding itemAt indexAt
   index-broken h = rw (q, h) refl
 
   module _ (child next : ℕ) (h : encintAt s (p + n) ≡ Value child next) where
-    pub index-wide : limits .count ≤ child → itemAt limits false s at ≡ Item.Bad
+    pub index-wide : limits .count ≤ child → itemAt limits Index s at ≡ Item.Bad
     unfolding itemAt indexAt
     index-wide l = rw (q, h, le-ltb child (limits .count) l) refl
 
     pub index-whole : child < limits .count
-        → itemAt limits false s at ≡ Good (record { at = at; start = p; len = n; section = 0; offset = 0; size = 0; child = child; next = next })
+        → itemAt limits Index s at ≡ Good (record { at = at; start = p; len = n; section = 0; offset = 0; size = 0; child = child; next = next })
     unfolding itemAt indexAt
     index-whole l = rw (q, h, lt-ltb child (limits .count) l) refl

@@ -2,7 +2,7 @@
 -- Assumes nothing.
 use Prim.Native.Nat.{ℕ, _+_}
 use mathlib.Core.List.{List}
-use mathlib.Core.Bool.{Bool, true, false, cond, _&&_, _||_}
+use mathlib.Core.Bool.{cond, _&&_, _||_}
 use lib.Dec.{ltb, leb}
 use Rattle.fields.specs.Part.{inside, part}
 use Rattle.encint.specs.Encint.{encintAt}
@@ -12,6 +12,8 @@ use Rattle.entries.specs.declared.Limits.{Limits}
 use Rattle.entries.specs.declared.Place.{Place}
 use Rattle.entries.specs.declared.Item.{Item}
 use Rattle.entries.specs.declared.Item.the-variants.{Good}
+use Rattle.entries.specs.declared.Kind.{Kind}
+use Rattle.entries.specs.declared.Kind.the-variants.{Listing, Index}
 
 -- f of a number that is there, and of the place behind it; else d
 abbrev pub withNumber : {A : Type 0} → Number → A → (ℕ → ℕ → A) → A
@@ -48,10 +50,10 @@ indexAt count s at =
     (Good (record { at = at; start = start; len = len; section = 0; offset = 0; size = 0; child = child; next = next }))
     Item.Bad))
 
--- the entry at a place: of a listing chunk for true, of an index chunk for false
-unfoldable pub itemAt : Limits → Bool → List ℕ → ℕ → Item
-itemAt limits true s at = listingAt (limits .content) s at
-itemAt limits false s at = indexAt (limits .count) s at
+-- the entry at a place of a chunk of a kind (E1, E2)
+unfoldable pub itemAt : Limits → Kind → List ℕ → ℕ → Item
+itemAt limits Listing s at = listingAt (limits .content) s at
+itemAt limits Index s at = indexAt (limits .count) s at
 
 -- the bytes of an entry's name
 abbrev pub nameOf : List ℕ → Place → List ℕ

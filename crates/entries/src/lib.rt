@@ -3,6 +3,12 @@ ghost use mathlib.Core.Path.{_≡_};
 ghost use Rattle.entries.specs.Entry.{nameAt, listingAt, indexAt, itemAt};
 use encint::Number;
 
+// The two kinds of chunks, and so of entries.
+pub enum Kind {
+    Listing,
+    Index,
+}
+
 // What a directory's chunks are held to: the density of the quick words, the chunk count, the content's length.
 pub struct Limits {
     pub density: u64,
@@ -113,13 +119,12 @@ pub fn index_at(c: &[u8], at: usize, count: u64) -> Item
     })
 }
 
-// The entry at a place, of a listing chunk or of an index chunk.
-pub fn item_at(c: &[u8], limits: Limits, listing: bool, at: usize) -> Item
-    ensures { λ r. ⌜ r ≡ itemAt limits listing (now (c .entry)) at ⌝ }
+// The entry at a place, of a chunk of a kind.
+pub fn item_at(c: &[u8], limits: Limits, kind: Kind, at: usize) -> Item
+    ensures { λ r. ⌜ r ≡ itemAt limits kind (now (c .entry)) at ⌝ }
 {
-    if listing {
-        listing_at(c, at, limits.content)
-    } else {
-        index_at(c, at, limits.count)
+    match kind {
+        Kind::Listing => listing_at(c, at, limits.content),
+        Kind::Index => index_at(c, at, limits.count),
     }
 }

@@ -10,6 +10,7 @@ use lib.Dec.{eqb}
 use borrow.Author.Tests.{eqb-true, eqb-false}
 use Rattle.refusals.specs.Refusals.{noChunk}
 use Rattle.entries.specs.declared.Place.{Place}
+use Rattle.entries.specs.declared.Kind.the-variants.{Listing}
 use Rattle.seek.specs.Seek.{nthIn}
 use Rattle.chunk.specs.Chunk.{Parsed, entryOf}
 use Rattle.seek.specs.declared.Hit.{Hit}
@@ -38,14 +39,14 @@ module _ (s : List ℕ) (book : Record) (at : Cursor) where
   own-other l = rw (l, and-no)
 
   module _ (f : bookFits s book ≡ true) (l : listingChunk (directoryOf s book) (shapeOf book) (at .chunk) ≡ true) (is : isListing (directoryOf s book (at .chunk)) ≡ true) where
-    pub own-missing : nthIn (limitsOf s book) true (chunkBytes s book (at .chunk)) (at .entry) ≡ HitNothing → ownedAt s book at ≡ Nothing
+    pub own-missing : nthIn (limitsOf s book) Listing (chunkBytes s book (at .chunk)) (at .entry) ≡ HitNothing → ownedAt s book at ≡ Nothing
     unfolding ownedAt canList
     own-missing h = rw (f, l) (ap (ownedOf book (at .chunk)) (nth-nothing s book (at .chunk) is (at .entry) h))
 
-    pub own-there : (e : Place) → nthIn (limitsOf s book) true (chunkBytes s book (at .chunk)) (at .entry) ≡ HitAt e → ownedAt s book at ≡ At (ownAt s book (at .chunk) e)
+    pub own-there : (e : Place) → nthIn (limitsOf s book) Listing (chunkBytes s book (at .chunk)) (at .entry) ≡ HitAt e → ownedAt s book at ≡ At (ownAt s book (at .chunk) e)
     unfolding ownedAt canList
     own-there e h =
-        let r = nth-read (limitsOf s book) true (chunkBytes s book (at .chunk)) (at .entry) e h in
+        let r = nth-read (limitsOf s book) Listing (chunkBytes s book (at .chunk)) (at .entry) e h in
         rw (f, l) (ap (ownedOf book (at .chunk)) (nth-hit s book (at .chunk) is (at .entry) e h .1)
         ∙ ap At (sym (read-owned s book (at .chunk) is (r .1) e (r .2))))
 
@@ -69,13 +70,13 @@ module _ (s : List ℕ) (bytes : (i : ℕ) → getD s i 0 < 256) (book : Record)
     step-is : stepped s book at ≡ entryStep book p at
     step-is = step-entry s book at f (some-chunk s book (at .chunk) f l) l
 
-    entry-beside : (h : Hit) → nthIn (limitsOf s book) true (chunkBytes s book (at .chunk)) (at .entry) ≡ h → Beside
+    entry-beside : (h : Hit) → nthIn (limitsOf s book) Listing (chunkBytes s book (at .chunk)) (at .entry) ≡ h → Beside
     unfolding entryStep
     entry-beside HitNothing h =
         none-beside _ (step-is ∙ entry-absent book p at (nth-nothing s book (at .chunk) is (at .entry) h)) tt (own-missing s book at f l is h)
     entry-beside (HitAt e) h =
         let n = nth-hit s book (at .chunk) is (at .entry) e h in
-        let r = nth-read (limitsOf s book) true (chunkBytes s book (at .chunk)) (at .entry) e h in
+        let r = nth-read (limitsOf s book) Listing (chunkBytes s book (at .chunk)) (at .entry) e h in
         let x = entryOf (chunkBytes s book (at .chunk)) e in
         let t : stepped s book at ≡ Reported (reportOf book (at .chunk) x) (movedOn p (at .chunk) (at .entry)) = step-is ∙ ap (stepOf book p (at .chunk) (at .entry)) (n .1) in
         let o : ownedAt s book at ≡ At (ownOf book (at .chunk) x) = own-there s book at f l is e h ∙ ap At (read-owned s book (at .chunk) is (r .1) e (r .2)) in

@@ -9,6 +9,7 @@ use lib.ListN.{length}
 use borrow.Author.Tests.{lt-ltb, le-ltb, eq-eqb, ne-eqb}
 use Rattle.refusals.specs.Refusals.{noChunk, refusalOf}
 use Rattle.entries.specs.declared.Place.{Place}
+use Rattle.entries.specs.declared.Kind.the-variants.{Listing}
 use Rattle.chunk.specs.Chunk.{Entry, Parsed, entryOf, countOf, entriesIn}
 use Rattle.seek.specs.Seek.{absent, found, nth, nthIn}
 use Rattle.seek.specs.declared.Hit.{Hit}
@@ -44,7 +45,7 @@ module _ (s : List ℕ) (book : Record) (at : Cursor) (is : isListing (directory
   bytes = chunkBytes s book (at .chunk)
 
   abbrev hit : Hit
-  hit = nthIn (limitsOf s book) true bytes (at .entry)
+  hit = nthIn (limitsOf s book) Listing bytes (at .entry)
 
   pub read-absent : hit ≡ Nothing → entryStep book (directoryOf s book (at .chunk)) at ≡ Refused (refusalOf 17)
   read-absent h = entry-absent book (directoryOf s book (at .chunk)) at (nth-nothing s book (at .chunk) is (at .entry) h)

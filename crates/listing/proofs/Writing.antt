@@ -11,7 +11,8 @@ use Rattle.fields.proofs.Put.{sets-after}
 use Rattle.entries.specs.Entry.{itemAt}
 use Rattle.entries.specs.declared.Place.{Place}
 use Rattle.entries.specs.declared.Item.the-variants.{Good, Bad}
-use Rattle.chunk.specs.Chunk.{Entry, all, entryOf, entriesAt, countOf, tailOf, entriesIn}
+use Rattle.entries.specs.declared.Kind.the-variants.{Listing}
+use Rattle.chunk.specs.Chunk.{Entry, all, entryOf, entriesAt, headOf, countOf, tailOf, entriesIn}
 use Rattle.header.specs.declared.Record.{Record}
 use Rattle.tree.specs.Shape.{isListing}
 use Rattle.book.specs.Book.{limitsOf, chunkBytes, directoryOf, reportOf, reportAt}
@@ -39,15 +40,15 @@ module _ (s : List ℕ) (book : Record) (c : ℕ) where
   pub record Left (t₀ : List ℕ) (t : List ℕ) (at i : ℕ) : Type 0 where
     pub low : i ≤ countOf bytes
     pub size : length t ≡ length t₀
-    pub read : entriesAt (limitsOf s book) true bytes (4096 - tailOf bytes) (countOf bytes - i) at ≡ all (drop i es)
+    pub read : entriesAt (limitsOf s book) Listing bytes (4096 - tailOf bytes) (countOf bytes - i) at ≡ all (drop i es)
     pub whole : sets t (5 * i) (numbersOf (map (reportOf book c) (drop i es))) ≡ sets t₀ 0 (numbersOf (reportsIn s book c))
 
   module _ (is : isListing (directoryOf s book c) ≡ true) where
-    pub left-start : (t : List ℕ) → Left t t 20 0
+    pub left-start : (t : List ℕ) → Left t t (headOf Listing) 0
     left-start t = record { low = omega arith; size = refl; read = entries-left s book c is; whole = refl }
 
     -- an entry is there
-    pub left-there : (t₀ t : List ℕ) (at i : ℕ) → Left t₀ t at i → i < countOf bytes → itemAt (limitsOf s book) true bytes at ≡ Bad → ⊥
+    pub left-there : (t₀ t : List ℕ) (at i : ℕ) → Left t₀ t at i → i < countOf bytes → itemAt (limitsOf s book) Listing bytes at ≡ Bad → ⊥
     left-there t₀ t at i h l b =
         let m = left-more (limitsOf s book) bytes (4096 - tailOf bytes) (countOf bytes) i at es l (h .read) in
         let q : Bad ≡ Good (m .0) = sym b ∙ m .1 in
@@ -55,7 +56,7 @@ module _ (s : List ℕ) (book : Record) (c : ℕ) where
         omega arith
 
     -- a turn writes the numbers of entry i
-    pub left-turn : (t₀ t u : List ℕ) (at i : ℕ) (e : Place) → Left t₀ t at i → i < countOf bytes → itemAt (limitsOf s book) true bytes at ≡ Good e
+    pub left-turn : (t₀ t u : List ℕ) (at i : ℕ) (e : Place) → Left t₀ t at i → i < countOf bytes → itemAt (limitsOf s book) Listing bytes at ≡ Good e
         → u ≡ sets t (5 * i) (fiveOf (reportAt s book c e)) → Left t₀ u (e .next) (i + 1)
     unfolding numbersOf flatMap
     left-turn t₀ t u at i e h l g q =

@@ -13,6 +13,7 @@ use book::Own;
 use book::Report;
 use chunk::Chunk;
 use entries::Item;
+use entries::Kind;
 use header::Record;
 use refusals::Refusal;
 use seek::Hit;
@@ -50,11 +51,16 @@ fn step_in(file: &[u8], book: Record, at: Cursor, next: u32) -> Step
     ensures { λ r. ⌜ r ≡ entryStep book (directoryOf (now (file .entry)) book (at .chunk)) at ⌝ }
 {
     let c = book::chunk_bytes(file, book, at.chunk);
-    let Hit::At(e) = seek::nth_entry(c, book::limits(file, book), true, at.entry as usize) else {
+    let Hit::At(e) = seek::nth_entry(
+        c,
+        book::limits(file, book),
+        Kind::Listing,
+        at.entry as usize,
+    ) else {
         return Step::Refused(refusals::refuse(17));
     };
     let r = book::report_of(file, book, at.chunk, e);
-    let total = fields::le16(c, 4094) as u64;
+    let total = chunk::entry_count(c) as u64;
     let after = at.entry + 1;
     if after < total {
         return Step::Entry(
@@ -109,7 +115,12 @@ impl Cursor {
             return Owned::Nothing;
         };
         let c = book::chunk_bytes(file, book, self.chunk);
-        match seek::nth_entry(c, book::limits(file, book), true, self.entry as usize) {
+        match seek::nth_entry(
+            c,
+            book::limits(file, book),
+            Kind::Listing,
+            self.entry as usize,
+        ) {
             Hit::At(e) => Owned::At(book::own_of(file, book, self.chunk, e)),
             Hit::Nothing => Owned::Nothing,
         }
@@ -136,8 +147,8 @@ fn put_entries(file: &[u8], book: Record, chunk: u64, out: &mut [u64])
 {
     let c = book::chunk_bytes(file, book, chunk);
     let limits = book::limits(file, book);
-    let total = fields::le16(c, 4094) as usize;
-    let mut at: usize = 20;
+    let total = chunk::entry_count(c) as usize;
+    let mut at = chunk::first_place(Kind::Listing);
     let mut i: usize = 0;
     while i < total {
         let Item::Good(e) = entries::listing_at(c, at, limits.content) else {
@@ -162,7 +173,7 @@ pub fn page_of(file: &[u8], book: Record, chunk: u64, out: &mut [u64]) -> Page
         Chunk::Index => return Page::Refused(refusals::refuse(17)),
         Chunk::Refused(_) => return Page::Refused(refusals::refuse(17)),
     };
-    let total = fields::le16(book::chunk_bytes(file, book, chunk), 4094) as u32;
+    let total = chunk::entry_count(book::chunk_bytes(file, book, chunk)) as u32;
     if out.len() < 5 * (total as usize) {
         return Page::Short;
     }

@@ -1,15 +1,13 @@
 -- What opening has established of a book that it accepts: `opened-book`.
 -- Assumes nothing.
-use mathlib.Core.Path.{_≡_, refl, subst}
+use mathlib.Core.Path.{_≡_, refl, subst, ap}
 use mathlib.Core.Bool.{Bool, true, false, cond}
 use mathlib.Core.List.{List}
 use Prim.Native.Nat.{ℕ, zero, suc, _+_, _≤_, _<_}
 use native.Mathlib.Omega.{arith}
 use native.Mathlib.Decide.{ℕ-discrete}
-use lib.Dec.{eqb}
-use borrow.Author.Tests.{eqb-true}
 use Rattle.refusals.specs.Refusals.{refusalOf, refusalAt}
-use Rattle.chunk.specs.Chunk.{Parsed, faultOf}
+use Rattle.chunk.specs.Chunk.{Parsed, bad, listing, index, isGood}
 use Rattle.header.specs.Header.{headerOf}
 use Rattle.header.specs.declared.Record.{Record}
 use Rattle.header.specs.declared.CheckedHeader.{CheckedHeader}
@@ -20,7 +18,7 @@ use Rattle.tree.specs.Tree.{treeOk}
 use Rattle.tree.specs.Demand.{GoodDirectory}
 use Rattle.book.specs.Book.{directoryOf, shapeOf, bookFits}
 use Rattle.book.proofs.Laws.{fits-made}
-use Rattle.opening.specs.Opened.{chunksThen, linkedBook, withHeader, opened}
+use Rattle.opening.specs.Opened.{chunksThen, linkedBook, withHeader, opened, chunkThen}
 use Rattle.opening.specs.declared.Opened.{Opened}
 use Rattle.opening.specs.declared.Opened.the-variants.{Book, Refused}
 use Rattle.opening.proofs.Links.{chunks-good}
@@ -28,23 +26,28 @@ use Rattle.opening.proofs.Links.{chunks-good}
 -- ---- what a book that comes out of the checks has passed
 
 chunks-passed : (D : ℕ → Parsed) (r : Record) (x : Opened) (n c : ℕ) → chunksThen D n c x ≡ Book r
-    → ((k : ℕ) → c ≤ k → k < c + n → faultOf (D k) ≡ 0) × (x ≡ Book r)
+    → ((k : ℕ) → c ≤ k → k < c + n → isGood (D k) ≡ true) × (x ≡ Book r)
 unfolding chunksThen
 chunks-passed D r x zero c e = ((λ k l h. absurd (omega arith)), e)
-chunks-passed D r x (suc n) c e = go (eqb (faultOf (D c)) 0) refl (λ q. chunks-passed D r x n (c + 1) q) e
+chunks-passed D r x (suc n) c e = go (D c) refl (λ q. chunks-passed D r x n (c + 1) q) e
   where
-    go : (t : Bool) → eqb (faultOf (D c)) 0 ≡ t
-        → (chunksThen D n (c + 1) x ≡ Book r → ((k : ℕ) → c + 1 ≤ k → k < c + 1 + n → faultOf (D k) ≡ 0) × (x ≡ Book r))
-        → cond t (chunksThen D n (c + 1) x) (Refused (refusalAt (faultOf (D c)) c)) ≡ Book r
-        → ((k : ℕ) → c ≤ k → k < c + suc n → faultOf (D k) ≡ 0) × (x ≡ Book r)
-    go true q f e = (
+    Behind : Type 0
+    Behind = ((k : ℕ) → c + 1 ≤ k → k < c + 1 + n → isGood (D k) ≡ true) × (x ≡ Book r)
+
+    more : isGood (D c) ≡ true → Behind → ((k : ℕ) → c ≤ k → k < c + suc n → isGood (D k) ≡ true) × (x ≡ Book r)
+    more g f = (
       (λ k l h. elim (ℕ-discrete c k) [
-        | yes p ↦ subst (λ j. faultOf (D j) ≡ 0) p (eqb-true (faultOf (D c)) 0 q)
-        | no p ↦ f e .0 k (omega arith) (omega arith)
+        | yes p ↦ subst (λ j. isGood (D j) ≡ true) p g
+        | no p ↦ f .0 k (omega arith) (omega arith)
       ]),
-      f e .1,
+      f .1,
     )
-    go false q f e = let z : _≡_ {A = ℕ} 0 1 = cc in absurd (omega arith)
+
+    go : (p : Parsed) → D c ≡ p → (chunksThen D n (c + 1) x ≡ Book r → Behind) → chunkThen p c (chunksThen D n (c + 1) x) ≡ Book r
+        → ((k : ℕ) → c ≤ k → k < c + suc n → isGood (D k) ≡ true) × (x ≡ Book r)
+    go (bad m) q f e = let z : _≡_ {A = ℕ} 0 1 = cc in absurd (omega arith)
+    go (listing a b es) q f e = more (ap isGood q) (f e)
+    go (index es) q f e = more (ap isGood q) (f e)
 
 linked-passed : (s : List ℕ) (b r : Record) → linkedBook s b ≡ Book r
     → (chainOk (directoryOf s b) (shapeOf b) ≡ true) × (treeOk (directoryOf s b) (shapeOf b) ≡ true) × (b ≡ r)

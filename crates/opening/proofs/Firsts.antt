@@ -10,7 +10,7 @@ use Rattle.entries.specs.Entry.{nameOf}
 use Rattle.entries.specs.declared.Limits.{Limits}
 use Rattle.entries.specs.declared.Place.{Place}
 use Rattle.entries.proofs.Laws.{item-inside}
-use Rattle.chunk.specs.Chunk.{Entry, tagOf, headOf, countOf, tailOf, parsed, entriesIn, isKind}
+use Rattle.chunk.specs.Chunk.{Entry, headOf, countOf, tailOf, parsed, entriesIn, isKind, kindOf}
 use Rattle.chunk.proofs.Accepted.{accepted, entries-count}
 use Rattle.seek.specs.Seek.{Sought, absent, found, nth, nameIn, final, soughtOf, nthIn, firstIn, lastIn}
 use Rattle.seek.specs.declared.Hit.{Hit}
@@ -21,10 +21,10 @@ use Rattle.header.specs.declared.Record.{Record}
 use Rattle.book.specs.Book.{limitsOf, chunkBytes, directoryOf}
 use Rattle.opening.specs.Passes.{GoodBook, FirstHit}
 use Rattle.opening.proofs.Tags.{kind-true}
-use Rattle.fields.specs.Same.{standsAt}
+use Rattle.entries.specs.declared.Kind.{Kind}
 
 -- an entry that was found lies inside
-nth-inside : (limits : Limits) (k : Bool) (s : List ℕ) (i : ℕ) (e : Place) → nthIn limits k s i ≡ At e → e .start + e .len ≤ length s
+nth-inside : (limits : Limits) (k : Kind) (s : List ℕ) (i : ℕ) (e : Place) → nthIn limits k s i ≡ At e → e .start + e .len ≤ length s
 nth-inside limits k s i e q = let r = nth-read limits k s i e q in item-inside limits k s (r .1) e (r .2) .name
 
 -- ---- a chunk with entries has a first and a last one
@@ -53,7 +53,7 @@ pub record Hits (s : List ℕ) (e : Place) (name : List ℕ) : Type 0 where
   pub inside : e .start + e .len ≤ length s
   pub named : nameOf s e ≡ name
 
-module _ (limits : Limits) (k : Bool) (s : List ℕ) (h : isKind k (parsed limits s) ≡ true) where
+module _ (limits : Limits) (k : Kind) (s : List ℕ) (h : isKind k (parsed limits s) ≡ true) where
   es : List Entry
   es = entriesIn (parsed limits s)
 
@@ -88,10 +88,9 @@ module _ (limits : Limits) (k : Bool) (s : List ℕ) (h : isKind k (parsed limit
 -- ---- the first entry of a chunk of a good book
 
 pub first-of-good : (s : List ℕ) (r : Record) → GoodBook s r → (c : ℕ) → c < r .count → (x : Hit)
-    → x ≡ firstIn (limitsOf s r) (standsAt (chunkBytes s r c) 0 (tagOf true)) (chunkBytes s r c) → FirstHit s r c x
+    → x ≡ firstIn (limitsOf s r) (kindOf (chunkBytes s r c)) (chunkBytes s r c) → FirstHit s r c x
 unfolding directoryOf
-first-of-good s r good c l x q = go (standsAt (chunkBytes s r c) 0 (tagOf true)) refl x q
-  where
-    go : (k : Bool) → standsAt (chunkBytes s r c) 0 (tagOf true) ≡ k → (x : Hit) → x ≡ firstIn (limitsOf s r) k (chunkBytes s r c) → FirstHit s r c x
-    go k e Nothing q = absurd (first-found (limitsOf s r) k (chunkBytes s r c) (kind-true s r good c l k e) q)
-    go k e (At p) q = let h = first-hit (limitsOf s r) k (chunkBytes s r c) (kind-true s r good c l k e) p q in (h .inside, h .named)
+first-of-good s r good c l Nothing q = absurd (first-found (limitsOf s r) (kindOf (chunkBytes s r c)) (chunkBytes s r c) (kind-true s r good c l) q)
+first-of-good s r good c l (At p) q =
+    let h = first-hit (limitsOf s r) (kindOf (chunkBytes s r c)) (chunkBytes s r c) (kind-true s r good c l) p q in
+    (h .inside, h .named)

@@ -1,15 +1,13 @@
 -- Chain and tree as the code checks them are chain and tree as they are defined.
 -- Assumes nothing.
 use mathlib.Core.Path.{_≡_, refl, sym, ap, _∙_}
-use mathlib.Core.Bool.{Bool, true, false, cond, not, _||_}
+use mathlib.Core.Bool.{cond}
 use mathlib.Core.List.{List}
 use Prim.Native.Nat.{ℕ, _+_, _-_, _≤_, _<_}
 use native.Mathlib.Omega.{arith}
-use Rattle.fields.specs.Same.{standsAt}
 use Rattle.refusals.specs.Refusals.{refusalOf}
-use Rattle.chunk.specs.Chunk.{tagOf}
 use Rattle.header.specs.declared.Record.{Record}
-use Rattle.tree.specs.Shape.{isListing, isIndex, GoodChunks}
+use Rattle.tree.specs.Shape.{GoodChunks}
 use Rattle.tree.specs.Walk.{listings, indexes, chainRunOk, treeWalkOk}
 use Rattle.tree.proofs.Parsed.{good-chunks}
 use Rattle.tree.proofs.Chunks.{kinds-count}
@@ -18,18 +16,12 @@ use Rattle.book.specs.Book.{limitsOf, chunkBytes, directoryOf, shapeOf}
 use Rattle.opening.specs.Opened.{linkedBook}
 use Rattle.opening.specs.declared.Opened.the-variants.{Book, Refused}
 use Rattle.opening.specs.Passes.{GoodBook}
-use Rattle.opening.proofs.Tags.{Tagged, tagged-chunk}
-
-either-kind : (a b t : Bool) → a ≡ t → b ≡ not t → (a || b) ≡ true
-either-kind a b true e f = rw e
-either-kind a b false e f = rw (e, f)
 
 module _ (s : List ℕ) (r : Record) (good : GoodBook s r) where
   pub chunks-good : GoodChunks (directoryOf s r) (shapeOf r)
   unfolding directoryOf
   chunks-good =
-      good-chunks (limitsOf s r) (chunkBytes s r) (shapeOf r)
-      (λ c l. let t = tagged-chunk s r good c l in either-kind _ _ (standsAt (chunkBytes s r c) 0 (tagOf true)) (t .kind) (t .other))
+      good-chunks (limitsOf s r) (chunkBytes s r) (shapeOf r) (good .good)
 
   pub index-count : indexes (directoryOf s r) (shapeOf r) ≡ r .count - listings (directoryOf s r) (shapeOf r)
   index-count = omega (arith, kinds-count (directoryOf s r) (shapeOf r) chunks-good)

@@ -10,7 +10,8 @@ use Rattle.entries.specs.Entry.{itemAt, nameOf, withItem}
 use Rattle.entries.specs.declared.Place.{Place}
 use Rattle.entries.specs.declared.Item.{Item}
 use Rattle.entries.specs.declared.Item.the-variants.{Good, Bad}
-use Rattle.chunk.specs.Chunk.{Parsed, Entry, Entries, all, entryOf, entriesAt, countOf, tailOf, entriesIn, isKind}
+use Rattle.entries.specs.declared.Kind.the-variants.{Index}
+use Rattle.chunk.specs.Chunk.{Parsed, Entry, Entries, all, entryOf, entriesAt, countOf, tailOf, entriesIn, isKind, headOf}
 use Rattle.chunk.proofs.Accepted.{accepted, entries-more, entries-none}
 use Rattle.header.specs.declared.Record.{Record}
 use Rattle.tree.specs.Shape.{Shape, firstName, nextOf, isIndex, listingChunk}
@@ -25,15 +26,15 @@ use Rattle.opening.specs.declared.Child.the-variants.{Named, Other}
 module _ (s : List ℕ) (r : Record) (c : ℕ) where
   -- the entries xs are `rest` entries of the chunk from a place on
   unfoldable pub Left : ℕ → ℕ → List Entry → Type 0
-  Left rest at xs = entriesAt (limitsOf s r) false (chunkBytes s r c) (4096 - tailOf (chunkBytes s r c)) rest at ≡ all xs
+  Left rest at xs = entriesAt (limitsOf s r) Index (chunkBytes s r c) (4096 - tailOf (chunkBytes s r c)) rest at ≡ all xs
 
-  pub all-left : isIndex (directoryOf s r c) ≡ true → Left (countOf (chunkBytes s r c)) 8 (entriesIn (directoryOf s r c))
+  pub all-left : isIndex (directoryOf s r c) ≡ true → Left (countOf (chunkBytes s r c)) (headOf Index) (entriesIn (directoryOf s r c))
   unfolding Left directoryOf
-  all-left h = accepted (limitsOf s r) false (chunkBytes s r c) h .entries
+  all-left h = accepted (limitsOf s r) Index (chunkBytes s r c) h .entries
 
   pub none-left : (rest at : ℕ) (xs : List Entry) → rest ≤ 0 → Left rest at xs → xs ≡ []
   unfolding Left
-  none-left zero at xs h e = entries-none (limitsOf s r) false (chunkBytes s r c) _ at xs e
+  none-left zero at xs h e = entries-none (limitsOf s r) Index (chunkBytes s r c) _ at xs e
   none-left (suc rest) at xs h e = absurd (omega arith)
 
   module _ (f : ℕ → ℕ → ℕ → Progress) (at : ℕ) (xs : List Entry) (expected left : ℕ) where
@@ -47,14 +48,14 @@ module _ (s : List ℕ) (r : Record) (c : ℕ) where
     visited-suc : (rest : ℕ) → Left (suc rest) at xs → Visited rest (childAt s r c at)
     unfolding childAt Left
     visited-suc rest e =
-        let m = entries-more (limitsOf s r) false (chunkBytes s r c) _ rest at xs e in
+        let m = entries-more (limitsOf s r) Index (chunkBytes s r c) _ rest at xs e in
         subst (λ (i : Item). Visited rest (withItem i Other (λ p. cond (test p) (Named (p .child) (p .next)) Other))) (sym (m .2)) (go (m .0) (m .1) (m .3) (m .4) (test (m .0)) refl)
       where
         test : Place → Bool
         test p = same (nameOf (chunkBytes s r c) p) (firstName (directoryOf s r (p .child)))
 
         go : (p : Place) (ys : List Entry) → xs ≡ entryOf (chunkBytes s r c) p ∷ ys
-            → entriesAt (limitsOf s r) false (chunkBytes s r c) (4096 - tailOf (chunkBytes s r c)) rest (p .next) ≡ all ys
+            → entriesAt (limitsOf s r) Index (chunkBytes s r c) (4096 - tailOf (chunkBytes s r c)) rest (p .next) ≡ all ys
             → (t : Bool) → test p ≡ t → Visited rest (cond t (Named (p .child) (p .next)) Other)
         go p ys q g true t = (ys, g, rw (q, t))
         go p ys q g false t = rw (q, t)

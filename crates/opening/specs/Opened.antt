@@ -3,9 +3,8 @@
 use Prim.Native.Nat.{ℕ, zero, suc, _+_}
 use mathlib.Core.Bool.{cond}
 use mathlib.Core.List.{List}
-use lib.Dec.{eqb}
 use Rattle.refusals.specs.Refusals.{refusalOf, refusalAt}
-use Rattle.chunk.specs.Chunk.{Parsed, faultOf}
+use Rattle.chunk.specs.Chunk.{Parsed, bad, listing, index}
 use Rattle.header.specs.Header.{headerOf}
 use Rattle.header.specs.declared.Record.{Record}
 use Rattle.header.specs.declared.CheckedHeader.{CheckedHeader}
@@ -16,10 +15,16 @@ use Rattle.book.specs.Book.{directoryOf, shapeOf}
 use Rattle.opening.specs.declared.Opened.{Opened}
 use Rattle.opening.specs.declared.Opened.the-variants.{Book, Refused}
 
--- the refusal of the first bad chunk among n from c on (RO2, RO7); else r
+-- the refusal of chunk c where it is bad (RO7); else r
+abbrev pub chunkThen : Parsed → ℕ → Opened → Opened
+chunkThen (bad n) c r = Refused (refusalAt n c)
+chunkThen (listing prev next es) c r = r
+chunkThen (index es) c r = r
+
+-- the refusal of the first bad chunk among n from c on (RO2); else r
 unfoldable pub chunksThen : (ℕ → Parsed) → ℕ → ℕ → Opened → Opened
 chunksThen D zero c r = r
-chunksThen D (suc n) c r = cond (eqb (faultOf (D c)) 0) (chunksThen D n (c + 1) r) (Refused (refusalAt (faultOf (D c)) c))
+chunksThen D (suc n) c r = chunkThen (D c) c (chunksThen D n (c + 1) r)
 
 -- chain, then tree (RO3), of a book whose head and chunks are good
 unfoldable pub linkedBook : List ℕ → Record → Opened

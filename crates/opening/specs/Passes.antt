@@ -2,7 +2,7 @@
 -- Assumes nothing.
 use Prim.Native.Nat.{ℕ, zero, suc, _+_, _≤_, _<_}
 use mathlib.Core.Path.{_≡_}
-use mathlib.Core.Bool.{true, false, cond, _&&_}
+use mathlib.Core.Bool.{true, cond, _&&_}
 use mathlib.Core.List.{List}
 use lib.ListN.{length}
 use lib.Dec.{eqb}
@@ -10,7 +10,8 @@ use Rattle.names.specs.Names.{below}
 use Rattle.fields.specs.Same.{same}
 use Rattle.refusals.specs.Refusals.{noChunk}
 use Rattle.entries.specs.Entry.{itemAt, nameOf, withItem}
-use Rattle.chunk.specs.Chunk.{Parsed, faultOf}
+use Rattle.entries.specs.declared.Kind.{Kind}
+use Rattle.chunk.specs.Chunk.{Parsed, isGood}
 use Rattle.chunk.specs.Answer.{chunkOf}
 use Rattle.chunk.specs.declared.Chunk.{Chunk}
 use Rattle.chunk.specs.declared.Chunk.the-variants.{Refused, Listing, Index}
@@ -32,23 +33,18 @@ use Rattle.opening.specs.declared.Progress.the-variants.{Stopped, Going}
 -- what is known of a book once all its chunks have passed their checks
 pub record GoodBook (s : List ℕ) (r : Record) : Type 0 where
   pub few : r .count ≤ 4096
-  pub good : (c : ℕ) → c < r .count → faultOf (directoryOf s r c) ≡ 0
+  pub good : (c : ℕ) → c < r .count → isGood (directoryOf s r c) ≡ true
 
--- of the check's answer on a chunk: the refusal's number, 0 for a good one; 1 for a listing chunk
-abbrev pub numberOf : Chunk → ℕ
-numberOf (Refused n) = n
-numberOf (Listing prev next) = 0
-numberOf Index = 0
-
-abbrev pub listingOne : Chunk → ℕ
-listingOne (Refused n) = 0
-listingOne (Listing prev next) = 1
-listingOne Index = 0
+-- by the check's answer on chunk c: its refusal, or what follows on l listing chunks and this one
+abbrev pub surveyedBy : Chunk → ℕ → ℕ → (ℕ → Survey) → Survey
+surveyedBy (Refused n) c l f = Fault n c
+surveyedBy (Listing prev next) c l f = f (l + 1)
+surveyedBy Index c l f = f l
 
 -- n chunks from c on: the first refusal, or the listing chunks among them with l more
 unfoldable pub surveyed : (ℕ → Parsed) → ℕ → ℕ → ℕ → Survey
 surveyed D zero c l = Listings l
-surveyed D (suc n) c l = cond (eqb (faultOf (D c)) 0) (surveyed D n (c + 1) (l + listingOne (chunkOf (D c)))) (Fault (faultOf (D c)) c)
+surveyed D (suc n) c l = surveyedBy (chunkOf (D c)) c l (surveyed D n (c + 1))
 
 -- chunk c of the chain, behind p: where it leads
 unfoldable pub linkOf : (ℕ → Parsed) → Shape → ℕ → ℕ → Link
@@ -75,5 +71,5 @@ leafOf D H c left = cond (listingChunk D H c) (Going (nextOf (D c)) left) Stoppe
 -- the entry of index chunk c at a place: its child, which must have the entry's name for its first, and the place behind it
 unfoldable pub childAt : List ℕ → Record → ℕ → ℕ → Child
 childAt s r c at =
-    withItem (itemAt (limitsOf s r) false (chunkBytes s r c) at) Other
+    withItem (itemAt (limitsOf s r) Kind.Index (chunkBytes s r c) at) Other
     (λ e. cond (same (nameOf (chunkBytes s r c) e) (firstName (directoryOf s r (e .child)))) (Named (e .child) (e .next)) Other)

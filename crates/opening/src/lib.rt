@@ -10,9 +10,10 @@ ghost use Rattle.tree.specs.Tree.{top};
 ghost use Rattle.tree.specs.Walk.{chainRun, walk, arrived, listings as listingsOf};
 ghost use Rattle.book.specs.Book.{directoryOf, shapeOf};
 ghost use Rattle.opening.specs.Opened.{chunksThen, linkedBook, opened};
-ghost use Rattle.opening.specs.Passes.{GoodBook, numberOf, listingOne, surveyed, linkOf, FirstHit, leafOf, childAt, progressOf};
+ghost use Rattle.opening.specs.Passes.{GoodBook, surveyed, linkOf, FirstHit, leafOf, childAt, progressOf};
 use chunk::Chunk;
 use entries::Item;
+use entries::Kind;
 use entries::Limits;
 use header::CheckedHeader;
 use header::Record;
@@ -50,28 +51,6 @@ enum Child {
     Other,
 }
 
-// 1 for a listing chunk.
-fn one_listing(k: Chunk) -> u64
-    ensures { λ r. ⌜ r ≡ listingOne k ⌝ }
-{
-    match k {
-        Chunk::Refused(_) => 0,
-        Chunk::Listing(_, _) => 1,
-        Chunk::Index => 0,
-    }
-}
-
-// The number of a refused chunk, 0 for a good one.
-fn fault_number(k: Chunk) -> u8
-    ensures { λ r. ⌜ r ≡ numberOf k ⌝ }
-{
-    match k {
-        Chunk::Refused(n) => n,
-        Chunk::Listing(_, _) => 0,
-        Chunk::Index => 0,
-    }
-}
-
 // The check of all chunks, from 0 on.
 fn survey_chunks(file: &[u8], book: Record) -> Survey
     requires { ⌜ book .count ≤ 4096 ⌝ }
@@ -81,13 +60,13 @@ fn survey_chunks(file: &[u8], book: Record) -> Survey
     let mut listings: u64 = 0;
     let mut c: u64 = 0;
     while c < total {
-        let k = book::met(file, book, c);
-        let n = fault_number(k);
-        if n != 0 {
-            return Survey::Fault(n, c as u32);
-        }
-        listings += one_listing(k);
+        let at = c;
         c += 1;
+        match book::met(file, book, at) {
+            Chunk::Refused(n) => return Survey::Fault(n, at as u32),
+            Chunk::Listing(_, _) => listings += 1,
+            Chunk::Index => {}
+        }
     }
     Survey::Listings(listings)
 }
@@ -100,7 +79,10 @@ fn is_listing(file: &[u8], book: Record, c: u64) -> bool
     if book.count <= c {
         return false;
     }
-    fields::stands_at(book::chunk_bytes(file, book, c), 0, b"PMGL")
+    match chunk::kind_of(book::chunk_bytes(file, book, c)) {
+        Kind::Listing => true,
+        Kind::Index => false,
+    }
 }
 
 // Whether c is an index chunk of a book whose chunks are good.
@@ -111,7 +93,10 @@ fn is_index(file: &[u8], book: Record, c: u64) -> bool
     if book.count <= c {
         return false;
     }
-    !fields::stands_at(book::chunk_bytes(file, book, c), 0, b"PMGL")
+    match chunk::kind_of(book::chunk_bytes(file, book, c)) {
+        Kind::Listing => false,
+        Kind::Index => true,
+    }
 }
 
 // The first entry of a chunk of a good book.
@@ -120,8 +105,7 @@ fn first_of(file: &[u8], book: Record, c: u64) -> Hit
     ensures { λ r. ⌜ FirstHit (now (file .entry)) book c r ⌝ }
 {
     let bytes = book::chunk_bytes(file, book, c);
-    let listing = fields::stands_at(bytes, 0, b"PMGL");
-    seek::first_entry(bytes, book::limits(file, book), listing)
+    seek::first_entry(bytes, book::limits(file, book), chunk::kind_of(bytes))
 }
 
 // Whether a name is, byte for byte, the first name of chunk c.
@@ -158,7 +142,7 @@ fn names_rise(file: &[u8], book: Record, c: u64, d: u64) -> bool
     ensures { λ r. ⌜ r ≡ below (lastName (directoryOf (now (file .entry)) book c)) (firstName (directoryOf (now (file .entry)) book d)) ⌝ }
 {
     let bytes = book::chunk_bytes(file, book, c);
-    let Hit::At(e) = seek::last_entry(bytes, book::limits(file, book), true) else {
+    let Hit::At(e) = seek::last_entry(bytes, book::limits(file, book), Kind::Listing) else {
         return false;
     };
     let start = e.start;
@@ -175,10 +159,10 @@ fn link_from(file: &[u8], book: Record, previous: u64, c: u64) -> Link
         return Link::Broken;
     }
     let bytes = book::chunk_bytes(file, book, c);
-    if fields::le32(bytes, 12) as u64 != previous {
+    if chunk::previous_link(bytes) as u64 != previous {
         return Link::Broken;
     }
-    let next = fields::le32(bytes, 16) as u64;
+    let next = chunk::next_link(bytes) as u64;
     if next == refusals::no_chunk() as u64 {
         return Link::Last;
     }
@@ -231,7 +215,7 @@ fn leaf(file: &[u8], book: Record, c: u64, left: u64) -> Progress
         return Progress::Stopped;
     }
     Progress::Going(
-        fields::le32(book::chunk_bytes(file, book, c), 16) as u64,
+        chunk::next_link(book::chunk_bytes(file, book, c)) as u64,
         left,
     )
 }
@@ -242,7 +226,7 @@ fn child_at(file: &[u8], book: Record, c: u64, at: usize) -> Child
     ensures { λ r. ⌜ r ≡ childAt (now (file .entry)) book c at ⌝ }
 {
     let bytes = book::chunk_bytes(file, book, c);
-    let Item::Good(x) = entries::item_at(bytes, book::limits(file, book), false, at) else {
+    let Item::Good(x) = entries::item_at(bytes, book::limits(file, book), Kind::Index, at) else {
         return Child::Other;
     };
     let start = x.start;
@@ -274,8 +258,8 @@ fn walk_tree(file: &[u8], book: Record, level: u64, c: u64, expected: u64, left:
     if !is_index(file, book, c) {
         return Progress::Stopped;
     }
-    let mut at: usize = 8;
-    let mut rest = fields::le16(book::chunk_bytes(file, book, c), 4094);
+    let mut at = chunk::first_place(Kind::Index);
+    let mut rest = chunk::entry_count(book::chunk_bytes(file, book, c));
     let mut next = expected;
     let mut k = left - 1;
     while 0 < rest {

@@ -5,7 +5,7 @@
 -- Assumes nothing.
 use mathlib.Core.Path.{_≡_, refl, sym, ap, ap₂, _∙_}
 use mathlib.Core.List.{List, [], _∷_}
-use mathlib.Core.Bool.{Bool, true, false}
+use mathlib.Core.Bool.{true}
 use Prim.Native.Nat.{ℕ, zero, suc, _+_, _-_, _*_, _^_, _≤_, _<_, min}
 use native.Mathlib.Omega.{arith}
 use native.Mathlib.Nat.{div-le-self}
@@ -21,6 +21,8 @@ use Rattle.entries.specs.declared.Place.{Place}
 use Rattle.entries.specs.declared.Item.{Item}
 use Rattle.entries.specs.declared.Item.the-variants.{Good, Bad}
 use Rattle.entries.proofs.Laws.{item-inside}
+use Rattle.entries.specs.declared.Kind.{Kind}
+use Rattle.entries.specs.declared.Kind.the-variants.{Listing, Index}
 use Rattle.chunk.specs.Chunk.{Entry, all, entryOf, entriesAt, countOf, tailOf, spacingOf, quickCount, parsed, entriesIn, isKind}
 use Rattle.chunk.proofs.Accepted.{accepted, entries-more}
 use Rattle.seek.specs.Seek.{Stand, byOrder, groupAt, groupAbove, lastGroup, groupIn, sizeIn}
@@ -52,12 +54,12 @@ cost-few n stand es h l =
 -- ---- a chunk that passes its check
 
 -- the name of an entry is compared
-compared-good : (limits : Limits) (k : Bool) (s : List ℕ) (at : ℕ) (e : Place) → itemAt limits k s at ≡ Good e → comparedAt limits k s at ≡ Value (e .len) (e .start)
+compared-good : (limits : Limits) (k : Kind) (s : List ℕ) (at : ℕ) (e : Place) → itemAt limits k s at ≡ Good e → comparedAt limits k s at ≡ Value (e .len) (e .start)
 unfolding comparedAt
-compared-good limits true s at e g = rw g refl
-compared-good limits false s at e g = item-inside limits false s at e g .read
+compared-good limits Listing s at e g = rw g refl
+compared-good limits Index s at e g = item-inside limits Index s at e g .read
 
-walked-all : (limits : Limits) (k : Bool) (s : List ℕ) (stand : Stand) (end n m at : ℕ) (es : List Entry) → m ≤ n → entriesAt limits k s end n at ≡ all es
+walked-all : (limits : Limits) (k : Kind) (s : List ℕ) (stand : Stand) (end n m at : ℕ) (es : List Entry) → m ≤ n → entriesAt limits k s end n at ≡ all es
     → walked limits k s stand m at ≡ passed stand (take m es)
 unfolding walked passed
 walked-all limits k s stand end n zero at es l e = refl
@@ -76,7 +78,7 @@ take-min (suc m) (e ∷ es) =
     let z : min (suc m) (length (e ∷ es)) ≡ suc (min m (length es)) = omega arith in
     ap (λ (i : ℕ). take i (e ∷ es)) z ∙ ap (λ (l : List Entry). e ∷ l) (take-min m es)
 
-pub cost-good : (limits : Limits) (k : Bool) (s : List ℕ) (stand : Stand) → isKind k (parsed limits s) ≡ true
+pub cost-good : (limits : Limits) (k : Kind) (s : List ℕ) (stand : Stand) → isKind k (parsed limits s) ≡ true
     → costIn limits k s stand ≡ comparisons (spacingOf (limits .density)) stand (entriesIn (parsed limits s))
 unfolding costIn comparisons
 cost-good limits k s stand h =
@@ -96,7 +98,7 @@ cost-good limits k s stand h =
 
 -- ---- any bytes
 
-walked-few : (limits : Limits) (k : Bool) (s : List ℕ) (stand : Stand) (n at : ℕ) → walked limits k s stand n at ≤ n
+walked-few : (limits : Limits) (k : Kind) (s : List ℕ) (stand : Stand) (n at : ℕ) → walked limits k s stand n at ≤ n
 unfolding walked
 walked-few limits k s stand zero at = omega arith
 walked-few limits k s stand (suc n) at = go (comparedAt limits k s at) (behind (itemAt limits k s at) (λ p. walked-few limits k s stand n p))
@@ -109,7 +111,7 @@ walked-few limits k s stand (suc n) at = go (comparedAt limits k s at) (behind (
     go Number.Bad f = omega arith
     go (Value len start) f = one-more (stand (part s start len)) f
 
-module _ (limits : Limits) (k : Bool) (s : List ℕ) (stand : Stand) where
+module _ (limits : Limits) (k : Kind) (s : List ℕ) (stand : Stand) where
   -- with so many entries of the group left
   abbrev pub spentIn : ℕ → ℕ
   spentIn left = halvingsIn limits k s stand + (sizeIn limits s (groupIn limits k s stand) - left)

@@ -6,7 +6,7 @@
 -- Assumes nothing.
 use mathlib.Core.Path.{_≡_, refl, sym, ap, subst, _∙_}
 use mathlib.Core.List.{List, [], _∷_}
-use mathlib.Core.Bool.{Bool, true, false, cond}
+use mathlib.Core.Bool.{true, cond}
 use Prim.Native.Nat.{ℕ, zero, suc, _+_, _-_, _*_, _/_, _%_, _≤_, _<_}
 use native.Mathlib.Omega.{arith}
 use native.Mathlib.Decide.{decLt}
@@ -21,6 +21,8 @@ use Rattle.names.specs.declared.Order.the-variants.{Less, Equal, Greater}
 use Rattle.entries.specs.Entry.{nameOf}
 use Rattle.entries.specs.declared.Limits.{Limits}
 use Rattle.entries.specs.declared.Place.{Place}
+use Rattle.entries.specs.declared.Kind.{Kind}
+use Rattle.entries.specs.declared.Kind.the-variants.{Listing, Index}
 use Rattle.entries.specs.Rising.{rising}
 use Rattle.chunk.specs.Chunk.{Entry, all, entryOf, entriesAt, headOf, countOf, tailOf, spacingOf, parsed, entriesIn, isKind, entryName}
 use Rattle.entries.proofs.Rising.{rising-more, rising-take, rising-drop}
@@ -40,13 +42,13 @@ find-here s name p h es Equal q r e = refl
 find-here s name p h es Greater q r e = e
 
 -- among the first m of n entries
-find-all : (limits : Limits) (s name : List ℕ) (end n m at : ℕ) (x : List ℕ) (es : List Entry) → m ≤ n → entriesAt limits true s end n at ≡ all es → rising entryName x es ≡ true
+find-all : (limits : Limits) (s name : List ℕ) (end n m at : ℕ) (x : List ℕ) (es : List Entry) → m ≤ n → entriesAt limits Listing s end n at ≡ all es → rising entryName x es ≡ true
     → soughtOf s (findAt limits s (compared name) m at) ≡ lookup name (take m es)
 unfolding findAt lookup matches
 find-all limits s name end n zero at x es l e r = refl
 find-all limits s name end zero (suc m) at x es l e r = absurd (omega arith)
 find-all limits s name end (suc n) (suc m) at x es l e r =
-    let t = entries-more limits true s end n at es e in
+    let t = entries-more limits Listing s end n at es e in
     let p = t .0 in
     let q = rising-more entryName x (entryOf s p) (t .1) (subst (λ (l : List Entry). rising entryName x l ≡ true) (t .3) r) in
     let i = find-all limits s name end n m (p .next) (nameOf s p) (t .1) (omega arith) (t .4) (q .1) in
@@ -63,13 +65,13 @@ choose-here s name p best h es Less q r e = sym (choice-behind name (nameOf s p)
 choose-here s name p best h es Equal q r e = sym (choice-behind name (nameOf s p) es (found (entryOf s p)) (ap notGreater q) r)
 choose-here s name p best h es Greater q r e = e
 
-choose-all : (limits : Limits) (s name : List ℕ) (end n m at : ℕ) (x : List ℕ) (best : Hit) (es : List Entry) → m ≤ n → entriesAt limits false s end n at ≡ all es → rising entryName x es ≡ true
+choose-all : (limits : Limits) (s name : List ℕ) (end n m at : ℕ) (x : List ℕ) (best : Hit) (es : List Entry) → m ≤ n → entriesAt limits Index s end n at ≡ all es → rising entryName x es ≡ true
     → soughtOf s (chooseAt limits s (compared name) best m at) ≡ choice name (soughtOf s best) (take m es)
 unfolding chooseAt choice below
 choose-all limits s name end n zero at x best es l e r = refl
 choose-all limits s name end zero (suc m) at x best es l e r = absurd (omega arith)
 choose-all limits s name end (suc n) (suc m) at x best es l e r =
-    let t = entries-more limits false s end n at es e in
+    let t = entries-more limits Index s end n at es e in
     let p = t .0 in
     let q = rising-more entryName x (entryOf s p) (t .1) (subst (λ (l : List Entry). rising entryName x l ≡ true) (t .3) r) in
     let i = choose-all limits s name end n m (p .next) (nameOf s p) (At p) (t .1) (omega arith) (t .4) (q .1) in
@@ -91,7 +93,7 @@ nth-drop zero j es = ap (λ (x : ℕ). nth x es) (omega arith)
 nth-drop (suc m) j [] = refl
 nth-drop (suc m) j (e ∷ es) = let z : suc (m + j) ≡ suc m + j = omega arith in nth-drop m j es ∙ ap (λ (x : ℕ). nth x (e ∷ es)) z
 
-after-all : (limits : Limits) (k : Bool) (s : List ℕ) (end n j at : ℕ) (es : List Entry) → j < n → entriesAt limits k s end n at ≡ all es
+after-all : (limits : Limits) (k : Kind) (s : List ℕ) (end n j at : ℕ) (es : List Entry) → j < n → entriesAt limits k s end n at ≡ all es
     → soughtOf s (afterAt limits k s j at) ≡ nth j es
 unfolding afterAt nth
 after-all limits k s end zero j at es h e = absurd (omega arith)
@@ -105,7 +107,7 @@ after-all limits k s end (suc n) (suc j) at es h e =
     rw (m .2) (after-all limits k s end n j (m .0 .next) (m .1) (omega arith) (m .4)) in
     here ∙ ap (nth (suc j)) (sym (m .3))
 
-module _ (limits : Limits) (k : Bool) (s : List ℕ) (es : List Entry) (good : Accepted limits k s es) where
+module _ (limits : Limits) (k : Kind) (s : List ℕ) (es : List Entry) (good : Accepted limits k s es) where
   abbrev n : ℕ
   n = spacingOf (limits .density)
 
@@ -145,32 +147,32 @@ nth-last (e ∷ es) = let z : suc (length es) - 1 ≡ length es = omega arith in
 -- ---- a chunk that passes its check
 
 module _ (limits : Limits) (s : List ℕ) where
-  pub find-good : (name : List ℕ) → isKind true (parsed limits s) ≡ true → soughtOf s (findIn limits s (compared name)) ≡ lookup name (entriesIn (parsed limits s))
+  pub find-good : (name : List ℕ) → isKind Listing (parsed limits s) ≡ true → soughtOf s (findIn limits s (compared name)) ≡ lookup name (entriesIn (parsed limits s))
   find-good name h =
       let es = entriesIn (parsed limits s) in
-      let a = accepted limits true s h in
-      let g = groupIn limits true s (compared name) in
-      let r = group-right limits true s es a (compared name) in
+      let a = accepted limits Listing s h in
+      let g = groupIn limits Listing s (compared name) in
+      let r = group-right limits Listing s es a (compared name) in
       let b = rising-drop entryName (g * spacingOf (limits .density)) [] es (a .rises) in
-      find-all limits s name (4096 - tailOf s) (countOf s - g * spacingOf (limits .density)) (sizeIn limits s g) (groupAt true s g) [] (drop (g * spacingOf (limits .density)) es) (omega arith)
-      (group-entries limits true s es a g (last-inside limits true s es a g (r .0))) b
-      ∙ sym (group-lookup limits true s es a name g r)
+      find-all limits s name (4096 - tailOf s) (countOf s - g * spacingOf (limits .density)) (sizeIn limits s g) (groupAt Listing s g) [] (drop (g * spacingOf (limits .density)) es) (omega arith)
+      (group-entries limits Listing s es a g (last-inside limits Listing s es a g (r .0))) b
+      ∙ sym (group-lookup limits Listing s es a name g r)
 
-  pub choose-good : (name : List ℕ) → isKind false (parsed limits s) ≡ true → soughtOf s (chooseIn limits s (compared name)) ≡ choice name absent (entriesIn (parsed limits s))
+  pub choose-good : (name : List ℕ) → isKind Index (parsed limits s) ≡ true → soughtOf s (chooseIn limits s (compared name)) ≡ choice name absent (entriesIn (parsed limits s))
   choose-good name h =
       let es = entriesIn (parsed limits s) in
-      let a = accepted limits false s h in
-      let g = groupIn limits false s (compared name) in
-      let r = group-right limits false s es a (compared name) in
+      let a = accepted limits Index s h in
+      let g = groupIn limits Index s (compared name) in
+      let r = group-right limits Index s es a (compared name) in
       let b = rising-drop entryName (g * spacingOf (limits .density)) [] es (a .rises) in
-      choose-all limits s name (4096 - tailOf s) (countOf s - g * spacingOf (limits .density)) (sizeIn limits s g) (groupAt false s g) [] Nothing (drop (g * spacingOf (limits .density)) es) (omega arith)
-      (group-entries limits false s es a g (last-inside limits false s es a g (r .0))) b
-      ∙ sym (group-choice limits false s es a name g r)
+      choose-all limits s name (4096 - tailOf s) (countOf s - g * spacingOf (limits .density)) (sizeIn limits s g) (groupAt Index s g) [] Nothing (drop (g * spacingOf (limits .density)) es) (omega arith)
+      (group-entries limits Index s es a g (last-inside limits Index s es a g (r .0))) b
+      ∙ sym (group-choice limits Index s es a name g r)
 
-  pub nth-good : (k : Bool) (i : ℕ) → isKind k (parsed limits s) ≡ true → soughtOf s (nthIn limits k s i) ≡ nth i (entriesIn (parsed limits s))
+  pub nth-good : (k : Kind) (i : ℕ) → isKind k (parsed limits s) ≡ true → soughtOf s (nthIn limits k s i) ≡ nth i (entriesIn (parsed limits s))
   nth-good k i h = nth-accepted limits k s (entriesIn (parsed limits s)) (accepted limits k s h) i
 
-  pub last-good : (k : Bool) → isKind k (parsed limits s) ≡ true → soughtOf s (lastIn limits k s) ≡ final absent (entriesIn (parsed limits s))
+  pub last-good : (k : Kind) → isKind k (parsed limits s) ≡ true → soughtOf s (lastIn limits k s) ≡ final absent (entriesIn (parsed limits s))
   last-good k h =
       let es = entriesIn (parsed limits s) in
       let g = accepted limits k s h in

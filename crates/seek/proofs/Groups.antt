@@ -8,7 +8,7 @@
 use mathlib.Core.Path.{_≡_, refl, sym, ap, ap₂, subst, _∙_}
 use mathlib.Core.Logic.{inl, inr}
 use mathlib.Core.List.{List, []}
-use mathlib.Core.Bool.{Bool, true}
+use mathlib.Core.Bool.{true}
 use Prim.Native.Nat.{ℕ, zero, suc, _+_, _-_, _*_, _/_, _≤_, _<_, min}
 use native.Mathlib.Omega.{arith}
 use native.Mathlib.Decide.{decLt, ℕ-discrete}
@@ -22,6 +22,7 @@ use Rattle.names.specs.Names.{compared}
 use Rattle.entries.specs.Entry.{nameOf}
 use Rattle.entries.specs.declared.Limits.{Limits}
 use Rattle.entries.proofs.Laws.{item-inside}
+use Rattle.entries.specs.declared.Kind.{Kind}
 use Rattle.chunk.specs.Chunk.{Entry, all, entriesAt, headOf, countOf, tailOf, spacingOf, quickCount, entryName}
 use Rattle.chunk.proofs.Accepted.{Accepted, entries-more, entries-count}
 use Rattle.chunk.proofs.Quick.{word}
@@ -33,7 +34,7 @@ use Rattle.seek.proofs.Behind.{other, nth-name, Ends, lookup-from, choi
 
 -- ---- the group of an empty chunk, and of one whose density is capped
 
-pub group-none : (limits : Limits) (k : Bool) (s : List ℕ) (stand : Stand) → countOf s < 1
+pub group-none : (limits : Limits) (k : Kind) (s : List ℕ) (stand : Stand) → countOf s < 1
     → (groupIn limits k s stand ≡ 0) × (halvingsIn limits k s stand ≡ 0)
 unfolding groupIn
 group-none limits k s stand h =
@@ -69,14 +70,14 @@ capped-size density i h =
 -- ---- where a group begins
 
 -- the first entry stands at the place where they begin
-first-place : (limits : Limits) (k : Bool) (s : List ℕ) (d : Entry) (end n at : ℕ) (es : List Entry) → 0 < n → entriesAt limits k s end n at ≡ all es → getD es 0 d .at ≡ at
+first-place : (limits : Limits) (k : Kind) (s : List ℕ) (d : Entry) (end n at : ℕ) (es : List Entry) → 0 < n → entriesAt limits k s end n at ≡ all es → getD es 0 d .at ≡ at
 first-place limits k s d end zero at es h e = absurd (omega arith)
 first-place limits k s d end (suc n) at es h e =
     let m = entries-more limits k s end n at es e in
     ap (λ (l : List Entry). getD l 0 d .at) (m .3) ∙ item-inside limits k s at (m .0) (m .2) .same
 
 -- the entries from entry j on stand from its place on
-from-entry : (limits : Limits) (k : Bool) (s : List ℕ) (d : Entry) (end n j at : ℕ) (es : List Entry) → j < n → entriesAt limits k s end n at ≡ all es
+from-entry : (limits : Limits) (k : Kind) (s : List ℕ) (d : Entry) (end n j at : ℕ) (es : List Entry) → j < n → entriesAt limits k s end n at ≡ all es
     → entriesAt limits k s end (n - j) (getD es j d .at) ≡ all (drop j es)
 from-entry limits k s d end n zero at es h e =
     let z : n - 0 ≡ n = omega arith in
@@ -88,7 +89,7 @@ from-entry limits k s d end (suc n) (suc j) at es h e =
     let r = from-entry limits k s d end n j (m .0 .next) (m .1) (omega arith) (m .4) in
     ap₂ (λ (x : ℕ) (l : List Entry). entriesAt limits k s end x (getD l (suc j) d .at)) z (m .3) ∙ r ∙ ap (λ (l : List Entry). all (drop (suc j) l)) (sym (m .3))
 
-module _ (limits : Limits) (k : Bool) (s : List ℕ) (es : List Entry) (good : Accepted limits k s es) where
+module _ (limits : Limits) (k : Kind) (s : List ℕ) (es : List Entry) (good : Accepted limits k s es) where
   -- how many entries a group has; the last may have fewer
   abbrev n : ℕ
   n = spacingOf (limits .density)

@@ -2,7 +2,6 @@
 -- Assumes nothing.
 use mathlib.Core.Path.{_≡_, refl, sym, ap, _∙_}
 use mathlib.Core.List.{List}
-use mathlib.Core.Bool.{Bool, true, false}
 use Prim.Native.Nat.{ℕ, zero, suc, _+_, _-_, _/_, _%_, _≤_, _<_}
 use native.Mathlib.Omega.{arith}
 use native.Mathlib.Decide.{decLe}
@@ -21,6 +20,8 @@ use Rattle.entries.specs.declared.Place.{Place}
 use Rattle.entries.specs.declared.Item.{Item}
 use Rattle.entries.specs.declared.Item.the-variants.{Good, Bad}
 use Rattle.entries.proofs.Laws.{onItem, test-passed, item-inside, item-named, item-unnamed}
+use Rattle.entries.specs.declared.Kind.{Kind}
+use Rattle.entries.specs.declared.Kind.the-variants.{Listing, Index}
 use Rattle.chunk.specs.Chunk.{countOf, spacingOf}
 use Rattle.seek.specs.Seek.{Stand, byOrder, findAt, chooseAt, childOf, afterAt, groupAt, nthIn}
 use Rattle.seek.specs.Count.{comparedAt, walked}
@@ -48,10 +49,10 @@ one-more h count n m q = let z : count + suc n ≡ m + n = omega (arith, q) in a
 -- what a search comes to that compared `count` names before
 module _ (limits : Limits) (s : List ℕ) (stand : Stand) where
   abbrev pub findFrom : ℕ → ℕ → ℕ → CountedHit
-  findFrom count left at = record { hit = findAt limits s stand left at; count = count + walked limits true s stand left at }
+  findFrom count left at = record { hit = findAt limits s stand left at; count = count + walked limits Listing s stand left at }
 
   abbrev pub chooseFrom : Hit → ℕ → ℕ → ℕ → CountedHit
-  chooseFrom best count left at = record { hit = chooseAt limits s stand best left at; count = count + walked limits false s stand left at }
+  chooseFrom best count left at = record { hit = chooseAt limits s stand best left at; count = count + walked limits Index s stand left at }
 
   -- ---- the entry of a name
 
@@ -60,11 +61,11 @@ module _ (limits : Limits) (s : List ℕ) (stand : Stand) where
     unfolding findAt walked
     find-end h = none-left (λ n. findFrom count n at) left h ∙ no-more Nothing count
 
-    pub find-bad : 0 < left → itemAt limits true s at ≡ Bad → findFrom count left at ≡ record { hit = Nothing; count = count }
+    pub find-bad : 0 < left → itemAt limits Listing s at ≡ Bad → findFrom count left at ≡ record { hit = Nothing; count = count }
     unfolding findAt walked comparedAt
     find-bad h g = some-left (λ n. findFrom count n at) left h ∙ rw g (no-more Nothing count)
 
-    module _ (e : Place) (h : 0 < left) (g : itemAt limits true s at ≡ Good e) (more : ℕ) (q : count + 1 ≡ more) where
+    module _ (e : Place) (h : 0 < left) (g : itemAt limits Listing s at ≡ Good e) (more : ℕ) (q : count + 1 ≡ more) where
       pub find-above : stand (nameOf s e) ≡ Less → findFrom count left at ≡ record { hit = Nothing; count = more }
       unfolding findAt walked comparedAt
       find-above m = some-left (λ n. findFrom count n at) left h ∙ rw (g, m) (ap (beside Nothing) q)
@@ -77,7 +78,7 @@ module _ (limits : Limits) (s : List ℕ) (stand : Stand) where
       unfolding findAt walked comparedAt
       find-on m =
           some-left (λ n. findFrom count n at) left h
-          ∙ rw (g, m) (one-more (findAt limits s stand (left - 1) (e .next)) count (walked limits true s stand (left - 1) (e .next)) more q)
+          ∙ rw (g, m) (one-more (findAt limits s stand (left - 1) (e .next)) count (walked limits Listing s stand (left - 1) (e .next)) more q)
 
   -- ---- the entry to go down from; the name is read first, and compared
 
@@ -88,32 +89,32 @@ module _ (limits : Limits) (s : List ℕ) (stand : Stand) where
 
     pub choose-unnamed : 0 < left → nameAt s at ≡ Number.Bad → chooseFrom best count left at ≡ record { hit = best; count = count }
     unfolding chooseAt walked comparedAt
-    choose-unnamed h q = some-left (λ n. chooseFrom best count n at) left h ∙ rw (item-unnamed limits false s at q, q) (no-more best count)
+    choose-unnamed h q = some-left (λ n. chooseFrom best count n at) left h ∙ rw (item-unnamed limits Index s at q, q) (no-more best count)
 
     module _ (n p : ℕ) (h : 0 < left) (q : nameAt s at ≡ Value n p) (more : ℕ) (r : count + 1 ≡ more) where
-      named-order : (o : Order) → stand (part s p n) ≡ o → (e : Place) → itemAt limits false s at ≡ Good e → stand (nameOf s e) ≡ o
-      named-order o r e g = ap stand (item-named limits false s at n p e q g) ∙ r
+      named-order : (o : Order) → stand (part s p n) ≡ o → (e : Place) → itemAt limits Index s at ≡ Good e → stand (nameOf s e) ≡ o
+      named-order o r e g = ap stand (item-named limits Index s at n p e q g) ∙ r
 
       -- above: what stands behind it does not matter
       pub choose-above : stand (part s p n) ≡ Less → chooseFrom best count left at ≡ record { hit = best; count = more }
       unfolding chooseAt walked comparedAt
-      choose-above o = some-left (λ i. chooseFrom best count i at) left h ∙ go (itemAt limits false s at) refl
+      choose-above o = some-left (λ i. chooseFrom best count i at) left h ∙ go (itemAt limits Index s at) refl
         where
-          go : (i : Item) → itemAt limits false s at ≡ i → chooseFrom best count (suc (left - 1)) at ≡ record { hit = best; count = more }
+          go : (i : Item) → itemAt limits Index s at ≡ i → chooseFrom best count (suc (left - 1)) at ≡ record { hit = best; count = more }
           go Bad g = rw (g, q, o) (ap (beside best) r)
           go (Good e) g = rw (g, named-order Less o e g, q, o) (ap (beside best) r)
 
       -- equal: its child
       pub choose-equal : stand (part s p n) ≡ Equal
           → (withItem (indexAt (limits .count) s at) (childOf best) (λ e. Below (e .child)) ≡ childOf (chooseAt limits s stand best left at))
-          × (more ≡ count + walked limits false s stand left at)
+          × (more ≡ count + walked limits Index s stand left at)
       unfolding chooseAt walked comparedAt itemAt
       choose-equal o =
-          let w : walked limits false s stand (suc (left - 1)) at ≡ 1 = rw (q, o) refl in
-          let v = some-left (λ i. walked limits false s stand i at) left h ∙ w in
-          (go (itemAt limits false s at) refl, omega (arith, v, r))
+          let w : walked limits Index s stand (suc (left - 1)) at ≡ 1 = rw (q, o) refl in
+          let v = some-left (λ i. walked limits Index s stand i at) left h ∙ w in
+          (go (itemAt limits Index s at) refl, omega (arith, v, r))
         where
-          go : (i : Item) → itemAt limits false s at ≡ i → withItem i (childOf best) (λ e. Below (e .child)) ≡ childOf (chooseAt limits s stand best left at)
+          go : (i : Item) → itemAt limits Index s at ≡ i → withItem i (childOf best) (λ e. Below (e .child)) ≡ childOf (chooseAt limits s stand best left at)
           go Bad g =
               let w : chooseAt limits s stand best (suc (left - 1)) at ≡ best = rw g refl in
               ap childOf (sym (some-left (λ i. chooseAt limits s stand best i at) left h ∙ w))
@@ -122,26 +123,26 @@ module _ (limits : Limits) (s : List ℕ) (stand : Stand) where
               ap childOf (sym (some-left (λ i. chooseAt limits s stand best i at) left h ∙ w))
 
       -- below, but no entry: the search ends
-      pub choose-barred : stand (part s p n) ≡ Greater → itemAt limits false s at ≡ Bad → chooseFrom best count left at ≡ record { hit = best; count = more }
+      pub choose-barred : stand (part s p n) ≡ Greater → itemAt limits Index s at ≡ Bad → chooseFrom best count left at ≡ record { hit = best; count = more }
       unfolding chooseAt walked comparedAt
       choose-barred o g = some-left (λ i. chooseFrom best count i at) left h ∙ rw (g, q, o) (ap (beside best) r)
 
       -- below: it goes on behind it
-      pub choose-on : stand (part s p n) ≡ Greater → (e : Place) → itemAt limits false s at ≡ Good e
+      pub choose-on : stand (part s p n) ≡ Greater → (e : Place) → itemAt limits Index s at ≡ Good e
           → chooseFrom best count left at ≡ chooseFrom (At e) more (left - 1) (e .next)
       unfolding chooseAt walked comparedAt
       choose-on o e g =
           some-left (λ i. chooseFrom best count i at) left h
           ∙ rw (g, named-order Greater o e g, q, o)
-          (one-more (chooseAt limits s stand (At e) (left - 1) (e .next)) count (walked limits false s stand (left - 1) (e .next)) more r)
+          (one-more (chooseAt limits s stand (At e) (left - 1) (e .next)) count (walked limits Index s stand (left - 1) (e .next)) more r)
 
 -- what is no entry ends the walk, however many entries are left
-pub after-bad : (limits : Limits) (k : Bool) (s : List ℕ) (left at : ℕ) → itemAt limits k s at ≡ Bad → afterAt limits k s left at ≡ Nothing
+pub after-bad : (limits : Limits) (k : Kind) (s : List ℕ) (left at : ℕ) → itemAt limits k s at ≡ Bad → afterAt limits k s left at ≡ Nothing
 unfolding afterAt
 after-bad limits k s zero at g = rw g refl
 after-bad limits k s (suc left) at g = rw g refl
 
-module _ (limits : Limits) (k : Bool) (s : List ℕ) (left at : ℕ) where
+module _ (limits : Limits) (k : Kind) (s : List ℕ) (left at : ℕ) where
   pub after-on : (e : Place) → 0 < left → itemAt limits k s at ≡ Good e → afterAt limits k s left at ≡ afterAt limits k s (left - 1) (e .next)
   unfolding afterAt
   after-on e h g = some-left (λ n. afterAt limits k s n at) left h ∙ rw g refl
@@ -163,20 +164,20 @@ counted s h =
 
 -- an entry that was read somewhere in the chunk, with a name equal to the asked one
 abbrev pub ReadAs : Limits → List ℕ → Stand → Place → Type 0
-ReadAs limits s stand e = (p : ℕ) × ((itemAt limits true s p ≡ Good e) × (stand (nameOf s e) ≡ Equal))
+ReadAs limits s stand e = (p : ℕ) × ((itemAt limits Listing s p ≡ Good e) × (stand (nameOf s e) ≡ Equal))
 
 pub find-read : (limits : Limits) (s : List ℕ) (stand : Stand) (e : Place) (n at : ℕ) → findAt limits s stand n at ≡ At e → ReadAs limits s stand e
 unfolding findAt
 find-read limits s stand e zero at q = let z : _≡_ {A = ℕ} 0 1 = cc in absurd (omega arith)
-find-read limits s stand e (suc n) at q = go (itemAt limits true s at) refl (λ p. find-read limits s stand e n p) q
+find-read limits s stand e (suc n) at q = go (itemAt limits Listing s at) refl (λ p. find-read limits s stand e n p) q
   where
-    here : (x : Place) → itemAt limits true s at ≡ Good x → (findAt limits s stand n (x .next) ≡ At e → ReadAs limits s stand e)
+    here : (x : Place) → itemAt limits Listing s at ≡ Good x → (findAt limits s stand n (x .next) ≡ At e → ReadAs limits s stand e)
         → (o : Order) → stand (nameOf s x) ≡ o → byOrder o Nothing (At x) (findAt limits s stand n (x .next)) ≡ At e → ReadAs limits s stand e
     here x g f Less r q = let z : _≡_ {A = ℕ} 0 1 = cc in absurd (omega arith)
     here x g f Equal r q = let z : x ≡ e = cc in rw (← z) (at, (g, r))
     here x g f Greater r q = f q
 
-    go : (i : Item) → itemAt limits true s at ≡ i → ((p : ℕ) → findAt limits s stand n p ≡ At e → ReadAs limits s stand e)
+    go : (i : Item) → itemAt limits Listing s at ≡ i → ((p : ℕ) → findAt limits s stand n p ≡ At e → ReadAs limits s stand e)
         → withItem i Nothing (λ x. byOrder (stand (nameOf s x)) Nothing (At x) (findAt limits s stand n (x .next))) ≡ At e → ReadAs limits s stand e
     go Bad g f q = let z : _≡_ {A = ℕ} 0 1 = cc in absurd (omega arith)
     go (Good x) g f q = here x g (f (x .next)) (stand (nameOf s x)) refl q
@@ -184,7 +185,7 @@ find-read limits s stand e (suc n) at q = go (itemAt limits true s at) refl (λ 
 pub find-inside : (limits : Limits) (s : List ℕ) (stand : Stand) (e : Place) (n at : ℕ) → findAt limits s stand n at ≡ At e → (e .start + e .len ≤ length s) × (0 < e .len)
 find-inside limits s stand e n at q =
     let r = find-read limits s stand e n at q in
-    let i = item-inside limits true s (r .0) e (r .1 .0) in
+    let i = item-inside limits Listing s (r .0) e (r .1 .0) in
     (i .name, i .some)
 
 -- ---- so is entry i

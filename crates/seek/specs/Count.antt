@@ -2,7 +2,7 @@
 -- chunk's bytes, which is how it goes. `cost-good` of proofs/Counts.antt says that on a chunk that passes its check the two are the same.
 -- Assumes nothing.
 use mathlib.Core.List.{List, [], _∷_}
-use mathlib.Core.Bool.{Bool, true, false, cond}
+use mathlib.Core.Bool.{Bool, cond}
 use Prim.Native.Nat.{ℕ, zero, suc, _+_, _-_, _*_, _^_, _≤_}
 use lib.Dec.{ltb}
 use lib.ListN.{length, take, drop}
@@ -12,6 +12,8 @@ use Rattle.encint.specs.declared.Number.{Number}
 use Rattle.encint.specs.declared.Number.the-variants.{Value, Bad}
 use Rattle.entries.specs.Entry.{withNumber, nameAt, itemAt, withItem}
 use Rattle.entries.specs.declared.Limits.{Limits}
+use Rattle.entries.specs.declared.Kind.{Kind}
+use Rattle.entries.specs.declared.Kind.the-variants.{Listing, Index}
 use Rattle.chunk.specs.Chunk.{Entry, quickCount}
 use Rattle.seek.specs.Seek.{Stand, byOrder, nth, nameIn, middle, halved, groupAt, groupAbove, lastGroup, groupIn, sizeIn}
 
@@ -50,22 +52,22 @@ pub record Least (g h : ℕ) : Type 0 where
 -- ---- over the bytes of a chunk; in those of a chunk that passes its check each turn has its name
 
 -- the name that is compared at a place, if there is one: a listing entry is read whole before, of an index entry only the name
-unfoldable pub comparedAt : Limits → Bool → List ℕ → ℕ → Number
-comparedAt limits true s at = withItem (itemAt limits true s at) Bad (λ e. Value (e .len) (e .start))
-comparedAt limits false s at = nameAt s at
+unfoldable pub comparedAt : Limits → Kind → List ℕ → ℕ → Number
+comparedAt limits Listing s at = withItem (itemAt limits Listing s at) Bad (λ e. Value (e .len) (e .start))
+comparedAt limits Index s at = nameAt s at
 
 -- among n entries from a place on
-unfoldable pub walked : Limits → Bool → List ℕ → Stand → ℕ → ℕ → ℕ
+unfoldable pub walked : Limits → Kind → List ℕ → Stand → ℕ → ℕ → ℕ
 walked limits k s stand zero at = 0
 walked limits k s stand (suc n) at =
     withNumber (comparedAt limits k s at) 0 (λ len start.
     suc (byOrder (stand (part s start len)) 0 0 (withItem (itemAt limits k s at) 0 (λ e. walked limits k s stand n (e .next)))))
 
 -- to find the group; a turn counts also where its first name is none
-abbrev pub halvingsIn : Limits → Bool → List ℕ → Stand → ℕ
+abbrev pub halvingsIn : Limits → Kind → List ℕ → Stand → ℕ
 halvingsIn limits k s stand = halvings (groupAbove k s stand) (lastGroup limits s) 0 (lastGroup limits s)
 
 -- in all
-unfoldable pub costIn : Limits → Bool → List ℕ → Stand → ℕ
+unfoldable pub costIn : Limits → Kind → List ℕ → Stand → ℕ
 costIn limits k s stand =
     halvingsIn limits k s stand + walked limits k s stand (sizeIn limits s (groupIn limits k s stand)) (groupAt k s (groupIn limits k s stand))

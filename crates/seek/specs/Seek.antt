@@ -3,7 +3,7 @@
 -- Assumes nothing.
 use Prim.Native.Nat.{ℕ, zero, suc, _+_, _-_, _*_, _/_, _%_, min}
 use mathlib.Core.List.{List, [], _∷_}
-use mathlib.Core.Bool.{Bool, true, false, cond}
+use mathlib.Core.Bool.{Bool, true, cond}
 use lib.Dec.{ltb, eqb}
 use Rattle.fields.specs.Part.{part}
 use Rattle.names.specs.Order.{isLess}
@@ -12,6 +12,8 @@ use Rattle.names.specs.declared.Order.{Order}
 use Rattle.names.specs.declared.Order.the-variants.{Less, Equal, Greater}
 use Rattle.entries.specs.Entry.{withNumber, nameAt, itemAt, nameOf, withItem}
 use Rattle.entries.specs.declared.Limits.{Limits}
+use Rattle.entries.specs.declared.Kind.{Kind}
+use Rattle.entries.specs.declared.Kind.the-variants.{Listing, Index}
 use Rattle.chunk.specs.Chunk.{Entry, entryOf, headOf, countOf, spacingOf, quickCount, quickWord}
 use Rattle.seek.specs.declared.Child.{Child}
 use Rattle.seek.specs.declared.Child.the-variants.{Below, Nowhere}
@@ -85,27 +87,27 @@ halved above (suc i) lo hi =
 unfoldable pub findAt : Limits → List ℕ → Stand → ℕ → ℕ → Hit
 findAt limits s stand zero at = Nothing
 findAt limits s stand (suc n) at =
-    withItem (itemAt limits true s at) Nothing (λ e. byOrder (stand (nameOf s e)) Nothing (At e) (findAt limits s stand n (e .next)))
+    withItem (itemAt limits Listing s at) Nothing (λ e. byOrder (stand (nameOf s e)) Nothing (At e) (findAt limits s stand n (e .next)))
 
 -- up to the same entry: it, if its name compares equal, else the last before it, with `best` that of the entries before
 unfoldable pub chooseAt : Limits → List ℕ → Stand → Hit → ℕ → ℕ → Hit
 chooseAt limits s stand best zero at = best
 chooseAt limits s stand best (suc n) at =
-    withItem (itemAt limits false s at) best (λ e. byOrder (stand (nameOf s e)) best (At e) (chooseAt limits s stand (At e) n (e .next)))
+    withItem (itemAt limits Index s at) best (λ e. byOrder (stand (nameOf s e)) best (At e) (chooseAt limits s stand (At e) n (e .next)))
 
 -- the entry behind j others, the first of which stands at a place
-unfoldable pub afterAt : Limits → Bool → List ℕ → ℕ → ℕ → Hit
+unfoldable pub afterAt : Limits → Kind → List ℕ → ℕ → ℕ → Hit
 afterAt limits k s zero at = withItem (itemAt limits k s at) Nothing (λ e. At e)
 afterAt limits k s (suc j) at = withItem (itemAt limits k s at) Nothing (λ e. afterAt limits k s j (e .next))
 
 -- ---- groups: the first entry and each that has a quick word begin one (Q8)
 
 -- the place of the entry that quick word g is for; the first entry for 0
-unfoldable pub groupAt : Bool → List ℕ → ℕ → ℕ
+unfoldable pub groupAt : Kind → List ℕ → ℕ → ℕ
 groupAt k s g = cond (eqb g 0) (headOf k) (headOf k + quickWord s g)
 
 -- the first name of group g is above the asked one, or is none
-unfoldable pub groupAbove : Bool → List ℕ → Stand → ℕ → Bool
+unfoldable pub groupAbove : Kind → List ℕ → Stand → ℕ → Bool
 groupAbove k s stand g = withNumber (nameAt s (groupAt k s g)) true (λ len start. isLess (stand (part s start len)))
 
 -- the last group of a chunk
@@ -113,7 +115,7 @@ abbrev pub lastGroup : Limits → List ℕ → ℕ
 lastGroup limits s = quickCount (spacingOf (limits .density)) (countOf s)
 
 -- of all groups of a chunk, the one that halving leaves
-unfoldable pub groupIn : Limits → Bool → List ℕ → Stand → ℕ
+unfoldable pub groupIn : Limits → Kind → List ℕ → Stand → ℕ
 groupIn limits k s stand = halved (groupAbove k s stand) (lastGroup limits s) 0 (lastGroup limits s)
 
 -- how many entries group g has
@@ -123,11 +125,11 @@ sizeIn limits s g = min (spacingOf (limits .density)) (countOf s - g * spacingOf
 -- ---- the searches of a whole chunk: the groups are halved, and the one that is left is gone through from its front, no further than its end
 
 abbrev pub findIn : Limits → List ℕ → Stand → Hit
-findIn limits s stand = findAt limits s stand (sizeIn limits s (groupIn limits true s stand)) (groupAt true s (groupIn limits true s stand))
+findIn limits s stand = findAt limits s stand (sizeIn limits s (groupIn limits Listing s stand)) (groupAt Listing s (groupIn limits Listing s stand))
 
 abbrev pub chooseIn : Limits → List ℕ → Stand → Hit
 chooseIn limits s stand =
-    chooseAt limits s stand Nothing (sizeIn limits s (groupIn limits false s stand)) (groupAt false s (groupIn limits false s stand))
+    chooseAt limits s stand Nothing (sizeIn limits s (groupIn limits Index s stand)) (groupAt Index s (groupIn limits Index s stand))
 
 -- where an index chunk leads: the child of the entry that was chosen
 abbrev pub childOf : Hit → Child
@@ -135,12 +137,12 @@ childOf Nothing = Nowhere
 childOf (At e) = Below (e .child)
 
 -- entry i, from the last quick word that is not behind it
-unfoldable pub nthIn : Limits → Bool → List ℕ → ℕ → Hit
+unfoldable pub nthIn : Limits → Kind → List ℕ → ℕ → Hit
 nthIn limits k s i =
     cond (ltb i (countOf s)) (afterAt limits k s (i % spacingOf (limits .density)) (groupAt k s (i / spacingOf (limits .density)))) Nothing
 
-abbrev pub firstIn : Limits → Bool → List ℕ → Hit
+abbrev pub firstIn : Limits → Kind → List ℕ → Hit
 firstIn limits k s = nthIn limits k s 0
 
-abbrev pub lastIn : Limits → Bool → List ℕ → Hit
+abbrev pub lastIn : Limits → Kind → List ℕ → Hit
 lastIn limits k s = nthIn limits k s (countOf s - 1)

@@ -1,12 +1,12 @@
 -- Chunks below the count: their kind, and that each has a first entry.
 -- Assumes nothing.
 use mathlib.Core.Path.{_≡_, refl}
-use mathlib.Core.Bool.{true, false, not, _||_}
+use mathlib.Core.Bool.{true, false, not}
 use mathlib.Core.List.{List, _∷_}
 use Prim.Native.Nat.{ℕ, _+_, _<_, _≤_}
 use borrow.Author.Tests.{ltb-true, lt-ltb, le-ltb}
 use Rattle.fields.proofs.Tests.{never, and-both}
-use Rattle.chunk.specs.Chunk.{Entry, Parsed, bad, listing, index, entriesIn}
+use Rattle.chunk.specs.Chunk.{Entry, Parsed, bad, listing, index, entriesIn, isGood}
 use Rattle.tree.specs.Shape.{Shape, isListing, isIndex, listingChunk, indexChunk, GoodChunks}
 use Rattle.tree.specs.Walk.{listings, indexes}
 use Rattle.tree.proofs.Lists.{first-of}
@@ -17,7 +17,7 @@ not-both (bad n) h k = never h
 not-both (listing a b es) h k = never k
 not-both (index es) h k = never h
 
-other-kind : (p : Parsed) → (isListing p || isIndex p) ≡ true → isIndex p ≡ not (isListing p)
+other-kind : (p : Parsed) → isGood p ≡ true → isIndex p ≡ not (isListing p)
 other-kind (bad n) h = never h
 other-kind (listing a b es) h = refl
 other-kind (index es) h = refl

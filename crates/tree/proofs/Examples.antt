@@ -1,7 +1,7 @@
 -- A small directory, and some with one slip each: what the checks and the descent come to.
 -- Assumes nothing.
 use mathlib.Core.Path.{_≡_, refl}
-use mathlib.Core.Bool.{true, false, _||_}
+use mathlib.Core.Bool.{true, false}
 use mathlib.Core.List.{List, [], _∷_, flatMap}
 use Prim.Native.Nat.{ℕ, zero, suc, _<_}
 use native.Mathlib.Omega.{arith}
@@ -11,9 +11,9 @@ use Rattle.refusals.specs.Refusals.{noChunk}
 use Rattle.names.specs.Order.{byNumber, byElement}
 use Rattle.names.specs.Names.{folded, compared, below, matches}
 use Rattle.entries.specs.Rising.{rising}
-use Rattle.chunk.specs.Chunk.{Entry, Parsed, bad, listing, index, entriesIn, entryName}
+use Rattle.chunk.specs.Chunk.{Entry, Parsed, bad, listing, index, entriesIn, entryName, isGood}
 use Rattle.seek.specs.Seek.{lookup, choice, nth, final}
-use Rattle.tree.specs.Shape.{Shape, isListing, isIndex, listingChunk, indexChunk, GoodChunks}
+use Rattle.tree.specs.Shape.{Shape, listingChunk, indexChunk, GoodChunks}
 use Rattle.tree.specs.Chain.{chainFrom, chain, linked, chainOk}
 use Rattle.tree.specs.Tree.{top, leaves, indexChunks, shaped, treeOk}
 use Rattle.tree.specs.Walk.{chainRun, chainRunOk, walk, treeWalkOk}
@@ -78,7 +78,7 @@ good-chunks : GoodChunks (of good) (header 3)
 unfolding rising folded byNumber byElement compared below
 good-chunks = record { good = kinds; some = entries; rises = orders }
   where
-    kinds : (c : ℕ) → c < 3 → (isListing (of good c) || isIndex (of good c)) ≡ true
+    kinds : (c : ℕ) → c < 3 → isGood (of good c) ≡ true
     kinds zero l = refl
     kinds (suc zero) l = refl
     kinds (suc (suc zero)) l = refl

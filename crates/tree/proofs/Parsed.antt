@@ -1,24 +1,26 @@
 -- Chunks that pass their own check are what chain and tree ask of chunks: `good-chunks`.
 -- Assumes nothing.
 use mathlib.Core.Path.{_≡_, refl}
-use mathlib.Core.Bool.{Bool, true, false, _||_}
+use mathlib.Core.Bool.{true}
 use mathlib.Core.List.{List, []}
 use Prim.Native.Nat.{ℕ, _-_, _<_}
 use native.Mathlib.Omega.{arith}
 use lib.ListN.{length}
 use Rattle.fields.proofs.Tests.{never}
 use Rattle.entries.specs.declared.Limits.{Limits}
+use Rattle.entries.specs.declared.Kind.{Kind}
+use Rattle.entries.specs.declared.Kind.the-variants.{Listing, Index}
 use Rattle.entries.specs.Rising.{rising}
-use Rattle.chunk.specs.Chunk.{Parsed, bad, listing, index, headOf, countOf, tailOf, parsed, entriesIn, isKind, entryName}
+use Rattle.chunk.specs.Chunk.{Parsed, bad, listing, index, headOf, countOf, tailOf, parsed, entriesIn, isKind, entryName, isGood}
 use Rattle.chunk.proofs.Accepted.{accepted, entries-count}
-use Rattle.tree.specs.Shape.{Shape, isListing, isIndex, GoodChunks}
+use Rattle.tree.specs.Shape.{Shape, GoodChunks}
 
-kind-of : (p : Parsed) → (isListing p || isIndex p) ≡ true → (k : Bool) × (isKind k p ≡ true)
+kind-of : (p : Parsed) → isGood p ≡ true → (k : Kind) × (isKind k p ≡ true)
 kind-of (bad n) h = never h
-kind-of (listing a b es) h = (true, refl)
-kind-of (index es) h = (false, refl)
+kind-of (listing a b es) h = (Listing, refl)
+kind-of (index es) h = (Index, refl)
 
-parsed-good : (limits : Limits) (s : List ℕ) → (isListing (parsed limits s) || isIndex (parsed limits s)) ≡ true
+parsed-good : (limits : Limits) (s : List ℕ) → isGood (parsed limits s) ≡ true
     → (0 < length (entriesIn (parsed limits s))) × (rising entryName [] (entriesIn (parsed limits s)) ≡ true)
 parsed-good limits s h =
     let k = kind-of (parsed limits s) h in
@@ -29,7 +31,7 @@ parsed-good limits s h =
 
 -- `bytes` gives each chunk number the bytes of that chunk
 pub good-chunks : (limits : Limits) (bytes : ℕ → List ℕ) (H : Shape)
-    → ((c : ℕ) → c < H .count → (isListing (parsed limits (bytes c)) || isIndex (parsed limits (bytes c))) ≡ true) → GoodChunks (λ c. parsed limits (bytes c)) H
+    → ((c : ℕ) → c < H .count → isGood (parsed limits (bytes c)) ≡ true) → GoodChunks (λ c. parsed limits (bytes c)) H
 good-chunks limits bytes H h = record {
   good = h;
   some = λ c l. parsed-good limits (bytes c) (h c l) .0;

@@ -1,14 +1,15 @@
 -- A directory above its bytes: D gives each chunk number the meaning of that chunk, H has what the directory's header says of chain and tree.
 -- Assumes nothing.
 use mathlib.Core.Path.{_≡_}
-use mathlib.Core.Bool.{Bool, true, false, _&&_, _||_}
+use mathlib.Core.Bool.{Bool, true, _&&_}
 use mathlib.Core.List.{List, []}
 use Prim.Native.Nat.{ℕ, _<_}
 use lib.Dec.{ltb}
 use lib.ListN.{length}
+use Rattle.entries.specs.declared.Kind.the-variants.{Listing, Index}
 use Rattle.entries.specs.Rising.{rising}
 use Rattle.refusals.specs.Refusals.{noChunk}
-use Rattle.chunk.specs.Chunk.{Parsed, bad, listing, index, entriesIn, isKind, entryName}
+use Rattle.chunk.specs.Chunk.{Parsed, bad, listing, index, entriesIn, isKind, entryName, isGood}
 use Rattle.seek.specs.Seek.{absent, nth, nameIn, final}
 
 -- ---- the header's numbers (FORMAT D8 to D11)
@@ -23,10 +24,10 @@ pub record Shape : Type 0 where
 -- ---- what is asked of a chunk
 
 abbrev pub isListing : Parsed → Bool
-isListing p = isKind true p
+isListing p = isKind Listing p
 
 abbrev pub isIndex : Parsed → Bool
-isIndex p = isKind false p
+isIndex p = isKind Index p
 
 -- the previous and the next listing chunk; a chunk of another kind has none
 abbrev pub previousOf : Parsed → ℕ
@@ -57,8 +58,8 @@ indexChunk D H c = ltb c (H .count) && isIndex (D c)
 -- ---- what opening knows of every chunk below the count before it looks at chain and tree (FORMAT, Chunk)
 
 pub record GoodChunks (D : ℕ → Parsed) (H : Shape) : Type 0 where
-  -- it is of one of the two kinds,
-  pub good : (c : ℕ) → c < H .count → (isListing (D c) || isIndex (D c)) ≡ true
+  -- it passed its checks,
+  pub good : (c : ℕ) → c < H .count → isGood (D c) ≡ true
   -- has an entry,
   pub some : (c : ℕ) → c < H .count → 0 < length (entriesIn (D c))
   -- and its names rise

@@ -11,6 +11,7 @@ use Rattle.refusals.specs.Refusals.{refusalOf}
 use Rattle.entries.specs.Entry.{itemAt}
 use Rattle.entries.specs.declared.Place.{Place}
 use Rattle.entries.specs.declared.Item.the-variants.{Good, Bad}
+use Rattle.entries.specs.declared.Kind.the-variants.{Listing}
 use Rattle.header.specs.declared.Record.{Record}
 use Rattle.tree.specs.Shape.{listingChunk}
 use Rattle.book.specs.Book.{limitsOf, chunkBytes, directoryOf, shapeOf, bookFits}
@@ -46,11 +47,11 @@ module _ (s : List ℕ) (book : Record) (w : Walk) where
 
   -- ---- the entry at a walk
 
-  pub here-entry : (e : Place) → itemAt (limitsOf s book) true (chunkBytes s book (w .chunk)) (w .at) ≡ Good e → entryHere s book w ≡ Entry e w
+  pub here-entry : (e : Place) → itemAt (limitsOf s book) Listing (chunkBytes s book (w .chunk)) (w .at) ≡ Good e → entryHere s book w ≡ Entry e w
   unfolding entryHere
   here-entry e h = rw h
 
-  pub here-none : itemAt (limitsOf s book) true (chunkBytes s book (w .chunk)) (w .at) ≡ Bad → entryHere s book w ≡ Refused (refusalOf 17)
+  pub here-none : itemAt (limitsOf s book) Listing (chunkBytes s book (w .chunk)) (w .at) ≡ Bad → entryHere s book w ≡ Refused (refusalOf 17)
   unfolding entryHere
   here-none h = rw h
 
@@ -65,6 +66,6 @@ module _ (s : List ℕ) (book : Record) (w : Walk) where
   peek-entered f x e = rw (f, e)
 
   -- inside a chunk: the entry at its place, and the walk as it is
-  pub peek-here : bookFits s book ≡ true → (e : Place) → 0 < w .left → itemAt (limitsOf s book) true (chunkBytes s book (w .chunk)) (w .at) ≡ Good e
+  pub peek-here : bookFits s book ≡ true → (e : Place) → 0 < w .left → itemAt (limitsOf s book) Listing (chunkBytes s book (w .chunk)) (w .at) ≡ Good e
       → comingAt s book w ≡ Entry e w
   peek-here f e l h = peek-entered f (Inside w) (enter-inside l) ∙ here-entry e h

@@ -1,7 +1,7 @@
 -- A walk ends: behind an entry that comes next it has fewer entries to come to than before.
 -- Assumes nothing.
 use mathlib.Core.Path.{_≡_, refl, subst}
-use mathlib.Core.Bool.{true, _&&_}
+use mathlib.Core.Bool.{_&&_}
 use mathlib.Core.List.{List}
 use Prim.Native.Nat.{ℕ, _-_, _≤_, _<_}
 use native.Mathlib.Omega.{arith}
@@ -13,6 +13,7 @@ use Rattle.entries.specs.Entry.{itemAt, withItem}
 use Rattle.entries.specs.declared.Place.{Place}
 use Rattle.entries.specs.declared.Item.{Item}
 use Rattle.entries.specs.declared.Item.the-variants.{Good, Bad}
+use Rattle.entries.specs.declared.Kind.the-variants.{Listing}
 use Rattle.header.specs.declared.Record.{Record}
 use Rattle.tree.specs.Shape.{listingChunk}
 use Rattle.tree.proofs.Lists.{onTest}
@@ -59,7 +60,7 @@ module _ (s : List ℕ) (book : Record) where
 
   here-same : (u v : Walk) (e : Place) → entryHere s book u ≡ Entry e v → u ≡ v
   unfolding entryHere
-  here-same u v e h = same-walk (itemAt (limitsOf s book) true (chunkBytes s book (u .chunk)) (u .at)) u v e h
+  here-same u v e h = same-walk (itemAt (limitsOf s book) Listing (chunkBytes s book (u .chunk)) (u .at)) u v e h
 
   peek-fell : (w v : Walk) (e : Place) → comingAt s book w ≡ Entry e v → Fell w v
   unfolding comingAt

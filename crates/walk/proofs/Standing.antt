@@ -15,6 +15,7 @@ use Rattle.entries.specs.Entry.{itemAt}
 use Rattle.entries.specs.declared.Place.{Place}
 use Rattle.entries.specs.declared.Item.the-variants.{Good}
 use Rattle.entries.proofs.Laws.{item-inside}
+use Rattle.entries.specs.declared.Kind.the-variants.{Listing}
 use Rattle.chunk.specs.Chunk.{Entry, all, entryOf, entriesAt, tailOf, entriesIn}
 use Rattle.chunk.proofs.Accepted.{entries-more, entries-none}
 use Rattle.header.specs.declared.Record.{Record}
@@ -42,12 +43,12 @@ module _ (s : List ℕ) (book : Record) where
     -- ---- inside a chunk
 
     comes : (w : Walk) (p : Place) → 0 < w .left → isListing (directoryOf s book (w .chunk)) ≡ true
-        → itemAt (limitsOf s book) true (chunkBytes s book (w .chunk)) (w .at) ≡ Good p
+        → itemAt (limitsOf s book) Listing (chunkBytes s book (w .chunk)) (w .at) ≡ Good p
         → Comes s book w w p (heldAt (w .chunk) (entryOf (chunkBytes s book (w .chunk)) p))
     unfolding nameHere
     comes w p l is h =
         let q = peek-here s book w fits p l h in
-        let i = item-inside (limitsOf s book) true (chunkBytes s book (w .chunk)) (w .at) p h in
+        let i = item-inside (limitsOf s book) Listing (chunkBytes s book (w .chunk)) (w .at) p h in
         record {
           next = q;
           still = q;
@@ -60,14 +61,14 @@ module _ (s : List ℕ) (book : Record) where
     -- the entries of its chunk, and then what is read behind it
     module _ (hs : List Held) (whole : Bool) (x n : ℕ) (behind-all : (v : Walk) → v .left ≡ 0 → v .next ≡ x → v .more ≡ n → Reads s book v hs whole) where
       inside : (l : ℕ) (w : Walk) (es : List Entry) → w .left ≡ l → w .next ≡ x → w .more ≡ n → isListing (directoryOf s book (w .chunk)) ≡ true
-          → entriesAt (limitsOf s book) true (chunkBytes s book (w .chunk)) (4096 - tailOf (chunkBytes s book (w .chunk))) l (w .at) ≡ all es
+          → entriesAt (limitsOf s book) Listing (chunkBytes s book (w .chunk)) (4096 - tailOf (chunkBytes s book (w .chunk))) l (w .at) ≡ all es
           → Reads s book w (map (heldAt (w .chunk)) es ++ hs) whole
       unfolding Reads afterOf
       inside zero w es l k m is e =
-          let z = entries-none (limitsOf s book) true (chunkBytes s book (w .chunk)) (4096 - tailOf (chunkBytes s book (w .chunk))) (w .at) es e in
+          let z = entries-none (limitsOf s book) Listing (chunkBytes s book (w .chunk)) (4096 - tailOf (chunkBytes s book (w .chunk))) (w .at) es e in
           subst (λ (xs : List Entry). Reads s book w (map (heldAt (w .chunk)) xs ++ hs) whole) (sym z) (behind-all w l k m)
       inside (suc l) w es q k m is e =
-          let r = entries-more (limitsOf s book) true (chunkBytes s book (w .chunk)) (4096 - tailOf (chunkBytes s book (w .chunk))) l (w .at) es e in
+          let r = entries-more (limitsOf s book) Listing (chunkBytes s book (w .chunk)) (4096 - tailOf (chunkBytes s book (w .chunk))) l (w .at) es e in
           let p = r .0 in
           let more : Reads s book (afterOf w p) (map (heldAt (w .chunk)) (r .1) ++ hs) whole = inside l (afterOf w p) (r .1) (omega arith) k m is (r .4) in
           subst (λ (xs : List Entry). Reads s book w (map (heldAt (w .chunk)) xs ++ hs) whole) (sym (r .3))

@@ -1,7 +1,7 @@
 -- A walk along the chain of a book, by value: what comes next at any walk, over any bytes, by any record.
 -- Assumes nothing.
 use Prim.Native.Nat.{ℕ, _+_, _-_, _*_}
-use mathlib.Core.Bool.{Bool, true, cond, _&&_}
+use mathlib.Core.Bool.{Bool, cond, _&&_}
 use mathlib.Core.List.{List}
 use lib.ListN.{length}
 use lib.Dec.{ltb, eqb}
@@ -10,7 +10,8 @@ use Rattle.refusals.specs.Refusals.{noChunk, refusalOf}
 use Rattle.refusals.specs.declared.Refusal.{Refusal}
 use Rattle.entries.specs.Entry.{itemAt, withItem}
 use Rattle.entries.specs.declared.Place.{Place}
-use Rattle.chunk.specs.Chunk.{Parsed, entriesIn}
+use Rattle.entries.specs.declared.Kind.the-variants.{Listing}
+use Rattle.chunk.specs.Chunk.{Parsed, entriesIn, headOf}
 use Rattle.header.specs.declared.Record.{Record}
 use Rattle.tree.specs.Shape.{nextOf, listingChunk}
 use Rattle.book.specs.Book.{limitsOf, chunkBytes, directoryOf, shapeOf, bookFits}
@@ -26,7 +27,7 @@ walkStart book = record { chunk = noChunk; at = 0; left = 0; next = book .first;
 
 -- before the first entry of chunk c, which is p; n more chunks may be entered behind it
 abbrev pub inChunk : ℕ → Parsed → ℕ → Walk
-inChunk c p n = record { chunk = c; at = 20; left = length (entriesIn p); next = nextOf p; more = n }
+inChunk c p n = record { chunk = c; at = headOf Listing; left = length (entriesIn p); next = nextOf p; more = n }
 
 -- behind the entry e of its chunk
 unfoldable pub afterOf : Walk → Place → Walk
@@ -59,7 +60,7 @@ module _ (s : List ℕ) (book : Record) where
   -- the entry at a walk inside a chunk: what is read there; the chunk is not checked again
   unfoldable pub entryHere : Walk → Coming
   entryHere w =
-      withItem (itemAt (limitsOf s book) true (chunkBytes s book (w .chunk)) (w .at)) (Refused (refusalOf 17)) (λ e. Entry e w)
+      withItem (itemAt (limitsOf s book) Listing (chunkBytes s book (w .chunk)) (w .at)) (Refused (refusalOf 17)) (λ e. Entry e w)
 
   -- what comes next: the record first (K12)
   unfoldable pub comingAt : Walk → Coming

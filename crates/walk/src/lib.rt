@@ -7,6 +7,7 @@ ghost use Rattle.walk.specs.Walk.{walkStart, isOver, entered, entryHere,
 ghost use Rattle.walk.specs.Exact.{WalkExact};
 use chunk::Chunk;
 use entries::Item;
+use entries::Kind;
 use entries::Place;
 use header::Record;
 use refusals::Refusal;
@@ -70,10 +71,11 @@ fn enter(w: Walk, file: &[u8], book: Record) -> Entered
         Chunk::Index => return Entered::Barred,
         Chunk::Refused(_) => return Entered::Barred,
     };
-    let left = fields::le16(book::chunk_bytes(file, book, w.next), 4094) as u64;
+    let at = chunk::first_place(Kind::Listing) as u64;
+    let left = chunk::entry_count(book::chunk_bytes(file, book, w.next)) as u64;
     Entered::Inside(Walk {
         chunk: w.next,
-        at: 20,
+        at,
         left,
         next,
         more: w.more - 1,

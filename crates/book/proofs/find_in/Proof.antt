@@ -1,8 +1,8 @@
 use mathlib.Core.Path.{_≡_, sym, ap, ap₂, _∙_}
-use mathlib.Core.Bool.{true}
 use denote.Ref.{now}
 use borrow.Author.Needs.{needs}
 use Rattle.names.specs.Names.{compared}
+use Rattle.entries.specs.declared.Kind.the-variants.{Listing}
 use Rattle.seek.specs.Seek.{findIn}
 use Rattle.seek.specs.Count.{costIn}
 use Rattle.seek.specs.declared.CountedHit.{CountedHit}
@@ -19,7 +19,7 @@ use Rattle.book.proofs.find_in.Tie as tie
 found-is : (c : tie.After-find) → let a = c .before .before .before .before .before .args in
     record {
       hit = findIn (limitsOf (now (a .file)) (a .book)) (chunkBytes (now (a .file)) (a .book) (a .c)) (compared (now (a .name)));
-      count = costIn (limitsOf (now (a .file)) (a .book)) true (chunkBytes (now (a .file)) (a .book) (a .c)) (compared (now (a .name)));
+      count = costIn (limitsOf (now (a .file)) (a .book)) Listing (chunkBytes (now (a .file)) (a .book) (a .c)) (compared (now (a .name)));
     } ≡ c .find .result
 found-is c = rw (← c .before .limits .ensures, ← c .before .before .chunk-bytes .ensures) (sym (c .find .ensures))
 

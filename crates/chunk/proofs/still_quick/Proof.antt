@@ -9,11 +9,8 @@ returns c = simp (c .before .before .if1 .taken, lt-ltb _ _ (c .if2 .taken))
 returns-2 : tie.Need-returns-2
 returns-2 c = simp (c .before .before .before .before .if1 .taken, le-ltb _ _ (c .before .before .if2 .left), eq-eqb _ _ (c .if3 .taken))
 
-mul-le16 : tie.Need-mul-le16
-mul-le16 c = search needs
-
-sub-le16 : tie.Need-sub-le16
-sub-le16 c = search needs
+quick-place-requires : tie.Need-quick-place-requires
+quick-place-requires c κs = search needs
 
 le16-requires : tie.Need-le16-requires
 le16-requires c κs = search needs
@@ -27,7 +24,7 @@ add-result c = search needs
 returns-3 : tie.Need-returns-3
 returns-3 c =
     let e = c .before .before in
-    simp (e .before .before .before .before .if1 .taken, le-ltb _ _ (e .before .before .if2 .left), ne-eqb _ _ (e .if3 .left), c .le16 .ensures)
+    simp (e .before .before .before .before .if1 .taken, le-ltb _ _ (e .before .before .if2 .left), ne-eqb _ _ (e .if3 .left), c .le16 .ensures, c .before .quick-place .ensures)
 
 returns-4 : tie.Need-returns-4
 returns-4 c = search needs
@@ -38,8 +35,7 @@ still-quick-spec =
     (tie.spec
     returns
     returns-2
-    mul-le16
-    sub-le16
+    quick-place-requires
     le16-requires
     cast-word
     add-result

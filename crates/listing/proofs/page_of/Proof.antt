@@ -20,9 +20,9 @@ met-is : (c : tie.After-known-told) → let a = c .before .before .before .befor
     Linked (now (a .file)) (a .book) (a .chunk) (c .before .next .given .0 .0) (c .before .next .given .0 .1 .0)
 met-is c = met-listing _ _ _ _ _ (sym (c .before .before .before .met .ensures) ∙ c .before .next .given .1)
 
-count-is : (c : tie.After-le16) → let a = c .before .before .before .before .before .before .before .before .before .before .args in
-    c .le16 .result ≡ countOf (chunkBytes (now (a .file)) (a .book) (a .chunk))
-count-is c = rw (← c .before .chunk-bytes .ensures) (c .le16 .ensures)
+count-is : (c : tie.After-entry-count) → let a = c .before .before .before .before .before .before .before .before .before .before .args in
+    c .entry-count .result ≡ countOf (chunkBytes (now (a .file)) (a .book) (a .chunk))
+count-is c = rw (← c .before .chunk-bytes .ensures) (c .entry-count .ensures)
 
 fits-requires : tie.Need-fits-requires
 fits-requires c κs = search needs
@@ -73,8 +73,8 @@ returns-3 c =
 chunk-bytes-requires : tie.Need-chunk-bytes-requires
 chunk-bytes-requires c κs = search needs
 
-le16-requires : tie.Need-le16-requires
-le16-requires c κs = search needs
+entry-count-requires : tie.Need-entry-count-requires
+entry-count-requires c κs = search needs
 
 cast-total : tie.Need-cast-total
 cast-total c = search needs
@@ -91,7 +91,7 @@ returns-4 c =
     let k = l .before .before in
     let e = k .before .before .before .before in
     let a = e .before .before .before .before .args in
-    page-short (now (a .file)) (a .book) (a .chunk) (now (a .out)) (fits-is e) (met-is k .below) (l .le16 .result) (count-is l) (c .if2 .taken)
+    page-short (now (a .file)) (a .book) (a .chunk) (now (a .out)) (fits-is e) (met-is k .below) (l .entry-count .result) (count-is l) (c .if2 .taken)
 
 put-entries-requires : tie.Need-put-entries-requires
 put-entries-requires c κs =
@@ -108,7 +108,7 @@ returns-5 c =
     let k = l .before .before in
     let e = k .before .before .before .before in
     let a = e .before .before .before .before .args in
-    page-done (now (a .file)) (a .book) (a .chunk) (now (a .out)) (fits-is e) (met-is k .below) (l .le16 .result) (count-is l)
+    page-done (now (a .file)) (a .book) (a .chunk) (now (a .out)) (fits-is e) (met-is k .below) (l .entry-count .result) (count-is l)
     (c .before .before .before .before .if2 .left) _ (met-is k .next-is) _ (c .before .before .put-entries .ensures)
 
 pub page-of-spec : {M : Type 1} → statement M
@@ -127,7 +127,7 @@ page-of-spec =
     refuse-requires-3
     returns-3
     chunk-bytes-requires
-    le16-requires
+    entry-count-requires
     cast-total
     cast-if2
     mul-if2

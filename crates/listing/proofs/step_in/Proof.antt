@@ -1,9 +1,9 @@
 use borrow.Author.Needs.{needs}
-use mathlib.Core.Bool.{true}
 use mathlib.Core.Path.{_≡_, sym, ap, ap₂, _∙_}
 use Prim.Native.Nat.{_+_}
 use native.Mathlib.Omega.{arith}
 use denote.Ref.{now}
+use Rattle.entries.specs.declared.Kind.the-variants.{Listing}
 use Rattle.chunk.specs.Chunk.{countOf}
 use Rattle.seek.specs.Seek.{nthIn}
 use Rattle.seek.specs.declared.Hit.the-variants.{At}
@@ -16,16 +16,16 @@ use Rattle.listing.proofs.step_in.Tie as tie
 
 -- the search that the code makes is the one in the chunk of the book
 sought-is : (c : tie.After-nth-entry) → let a = c .before .before .before .before .args in
-    c .nth-entry .result ≡ nthIn (limitsOf (now (a .file)) (a .book)) true (chunkBytes (now (a .file)) (a .book) (a .at .chunk)) (a .at .entry)
+    c .nth-entry .result ≡ nthIn (limitsOf (now (a .file)) (a .book)) Listing (chunkBytes (now (a .file)) (a .book) (a .at .chunk)) (a .at .entry)
 sought-is c = rw (← c .before .limits .ensures, ← c .before .before .chunk-bytes .ensures) (c .nth-entry .ensures)
 
-hit-is : (c : tie.After-le16) → let b = c .before .before .before in let a = b .before .before .before .before .before .before .args in
-    nthIn (limitsOf (now (a .file)) (a .book)) true (chunkBytes (now (a .file)) (a .book) (a .at .chunk)) (a .at .entry) ≡ At (b .e .given .0 .0)
+hit-is : (c : tie.After-entry-count) → let b = c .before .before .before in let a = b .before .before .before .before .before .before .args in
+    nthIn (limitsOf (now (a .file)) (a .book)) Listing (chunkBytes (now (a .file)) (a .book) (a .at .chunk)) (a .at .entry) ≡ At (b .e .given .0 .0)
 hit-is c = sym (sought-is (c .before .before .before .before .before)) ∙ c .before .before .before .e .given .1
 
-count-is : (c : tie.After-le16) → let a = c .before .before .before .before .before .before .before .before .before .args in
-    c .le16 .result ≡ countOf (chunkBytes (now (a .file)) (a .book) (a .at .chunk))
-count-is c = rw (← c .before .before .before .before .before .before .before .chunk-bytes .ensures) (c .le16 .ensures)
+count-is : (c : tie.After-entry-count) → let a = c .before .before .before .before .before .before .before .before .before .args in
+    c .entry-count .result ≡ countOf (chunkBytes (now (a .file)) (a .book) (a .at .chunk))
+count-is c = rw (← c .before .before .before .before .before .before .before .chunk-bytes .ensures) (c .entry-count .ensures)
 
 chunk-bytes-requires : tie.Need-chunk-bytes-requires
 chunk-bytes-requires c κs = search needs
@@ -56,8 +56,8 @@ returns c =
 report-of-requires : tie.Need-report-of-requires
 report-of-requires c κs = search needs
 
-le16-requires : tie.Need-le16-requires
-le16-requires c κs = search needs
+entry-count-requires : tie.Need-entry-count-requires
+entry-count-requires c κs = search needs
 
 cast-total : tie.Need-cast-total
 cast-total c = search needs
@@ -99,7 +99,7 @@ step-in-spec =
     refuse-requires
     returns
     report-of-requires
-    le16-requires
+    entry-count-requires
     cast-total
     add-after
     returns-2

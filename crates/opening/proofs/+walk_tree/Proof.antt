@@ -1,7 +1,7 @@
 use borrow.Author.Needs.{needs}
 use borrow.Author.Tests.{not-true, not-false}
 use Prim.Native.Nat.{ℕ, _-_, _<_}
-use mathlib.Core.Path.{_≡_, refl, sym, ap, subst, _∙_}
+use mathlib.Core.Path.{_≡_, refl, sym, ap, subst, _∙_, subst₂}
 use mathlib.Core.List.{List, []}
 use native.Mathlib.Omega.{arith}
 use denote.Ref.{now}
@@ -23,7 +23,8 @@ use Rattle.book.proofs.chunk_bytes.Reads as chunk-bytes-reads
 use Rattle.opening.proofs.child_at.Reads as child-at-reads
 use Rattle.opening.proofs.is_index.Reads as is-index-reads
 use Rattle.opening.proofs.leaf.Reads as leaf-reads
-use Rattle.fields.proofs.le16.Reads as le16-reads
+use Rattle.chunk.proofs.first_place.Reads as first-place-reads
+use Rattle.chunk.proofs.entry_count.Reads as entry-count-reads
 use Rattle.opening.proofs.+walk_tree.{statement}
 use Rattle.opening.proofs.+walk_tree.Tie.{close}
 
@@ -39,7 +40,7 @@ walk-tree-below t =
 
 abbrev callees : ℕ → walk-tree-lts.Claims
 callees t =
-    (leaf-reads.Asked, leaf-reads.Learnt, is-index-reads.Asked, is-index-reads.Learnt, chunk-bytes-reads.Asked, chunk-bytes-reads.Learnt, le16-reads.Asked, le16-reads.Learnt, child-at-reads.Asked, child-at-reads.Learnt, walk-tree-below t, walk-tree.Post)
+    (leaf-reads.Asked, leaf-reads.Learnt, is-index-reads.Asked, is-index-reads.Learnt, first-place-reads.Asked, first-place-reads.Learnt, chunk-bytes-reads.Asked, chunk-bytes-reads.Learnt, entry-count-reads.Asked, entry-count-reads.Learnt, child-at-reads.Asked, child-at-reads.Learnt, walk-tree-below t, walk-tree.Post)
 
 abbrev walk-tree-Inv-loop : walk-tree-lts.InvT-loop
 walk-tree-Inv-loop file book level c expected left at₀ rest₀ next₀ k₀ at rest next k =
@@ -82,26 +83,36 @@ walk-tree-returns-5 t c =
     let a = i .before .before .before .before .before .args in
     ap progressOf (sym (index-not (directoryOf (now (a .file)) (a .book)) (shapeOf (a .book)) (a .level) (a .c) (a .expected) (a .left) (omega arith) (failed (i .is-index .ensures) (c .if5 .taken))))
 
+walk-tree-first-place-requires : (t : ℕ) → walk-tree-lts.Need-first-place-requires (callees t) (walk-tree-at t) walk-tree.Post walk-tree-Inv-loop walk-tree-μ-loop
+walk-tree-first-place-requires t c κs = search needs
+
 walk-tree-chunk-bytes-requires : (t : ℕ) → walk-tree-lts.Need-chunk-bytes-requires (callees t) (walk-tree-at t) walk-tree.Post walk-tree-Inv-loop walk-tree-μ-loop
 walk-tree-chunk-bytes-requires t c κs = search needs
 
-walk-tree-le16-requires : (t : ℕ) → walk-tree-lts.Need-le16-requires (callees t) (walk-tree-at t) walk-tree.Post walk-tree-Inv-loop walk-tree-μ-loop
-walk-tree-le16-requires t c κs = search needs
+walk-tree-entry-count-requires : (t : ℕ) → walk-tree-lts.Need-entry-count-requires (callees t) (walk-tree-at t) walk-tree.Post walk-tree-Inv-loop walk-tree-μ-loop
+walk-tree-entry-count-requires t c κs = search needs
 
 walk-tree-sub-k : (t : ℕ) → walk-tree-lts.Need-sub-k (callees t) (walk-tree-at t) walk-tree.Post walk-tree-Inv-loop walk-tree-μ-loop
 walk-tree-sub-k t c = omega arith
 
+above-one : (l : ℕ) → (l ≡ 0 → ⊥) → (l ≡ 1 → ⊥) → 1 < l
+above-one l a b = omega arith
+
+some : (l : ℕ) → (l ≡ 0 → ⊥) → 0 < l
+some l a = omega arith
+
 walk-tree-loop-holds : (t : ℕ) → walk-tree-lts.Need-loop-holds (callees t) (walk-tree-at t) walk-tree.Post walk-tree-Inv-loop walk-tree-μ-loop
 walk-tree-loop-holds t c =
     let b = c .before in
-    let i = b .before .before in
+    let f = b .before in
+    let i = f .before .before in
     let a = i .before .before .before .before .before .args in
-    let h = held (i .is-index .ensures) (b .before .if5 .left) in
-    let q : c .le16 .result ≡ countOf (chunkBytes (now (a .file)) (a .book) (a .c)) = rw (← b .chunk-bytes .ensures) (c .le16 .ensures) in (
+    let h = held (i .is-index .ensures) (f .before .if5 .left) in
+    let q : c .entry-count .result ≡ countOf (chunkBytes (now (a .file)) (a .book) (a .c)) = rw (← b .chunk-bytes .ensures) (c .entry-count .ensures) in (
       entriesIn (directoryOf (now (a .file)) (a .book) (a .c)),
-      subst (λ (n : ℕ). Left (now (a .file)) (a .book) (a .c) n 8 (entriesIn (directoryOf (now (a .file)) (a .book) (a .c)))) (sym q)
+      subst₂ (λ (n m : ℕ). Left (now (a .file)) (a .book) (a .c) n m (entriesIn (directoryOf (now (a .file)) (a .book) (a .c)))) (sym q) (sym (f .first-place .ensures))
           (all-left (now (a .file)) (a .book) (a .c) (index-chunk (directoryOf (now (a .file)) (a .book)) (shapeOf (a .book)) (a .c) h .1)),
-      index-enter (directoryOf (now (a .file)) (a .book)) (shapeOf (a .book)) (a .level) (a .c) (a .expected) (a .left) (omega arith) (omega arith) h,
+      index-enter (directoryOf (now (a .file)) (a .book)) (shapeOf (a .book)) (a .level) (a .c) (a .expected) (a .left) (above-one (a .level) (i .before .before .before .if1 .left) (i .before .before .if2 .left)) (some (a .left) (i .before .if4 .left)) h,
     )
 
 walk-tree-child-at-requires : (t : ℕ) → walk-tree-lts.Need-child-at-requires (callees t) (walk-tree-at t) walk-tree.Post walk-tree-Inv-loop walk-tree-μ-loop
@@ -117,7 +128,7 @@ walk-tree-returns-6 : (t : ℕ) → walk-tree-lts.Need-returns-6 (callees t) (wa
 walk-tree-returns-6 t c =
     let k = c .before .before in
     let l = k .before .before in
-    let a = l .before .before .before .before .before .before .before .before .before .args in
+    let a = l .before .before .before .before .before .before .before .before .before .before .args in
     let f = walk (directoryOf (now (a .file)) (a .book)) (shapeOf (a .book)) (a .level - 1) in
     let v = visited (now (a .file)) (a .book) (a .c) f (l .loop .at) (l .loop .inv .0) (l .loop .next) (l .loop .k) (l .loop .rest) (k .before .loop-test .taken) (l .loop .inv .1) in
     let w = subst (Visited (now (a .file)) (a .book) (a .c) f (l .loop .at) (l .loop .inv .0) (l .loop .next) (l .loop .k) (l .loop .rest - 1)) (sym (k .child-at .ensures) ∙ c .enum-told .given .1) v in
@@ -139,7 +150,7 @@ walk-tree-returns-7 : (t : ℕ) → walk-tree-lts.Need-returns-7 (callees t) (wa
 walk-tree-returns-7 t c =
     let k = c .before .before .before .before .before .before in
     let l = k .before .before in
-    let a = l .before .before .before .before .before .before .before .before .before .args in
+    let a = l .before .before .before .before .before .before .before .before .before .before .args in
     let f = walk (directoryOf (now (a .file)) (a .book)) (shapeOf (a .book)) (a .level - 1) in
     let v = visited (now (a .file)) (a .book) (a .c) f (l .loop .at) (l .loop .inv .0) (l .loop .next) (l .loop .k) (l .loop .rest) (k .before .loop-test .taken) (l .loop .inv .1) in
     let g = c .before .before .before .before in
@@ -157,7 +168,7 @@ walk-tree-loop-again : (t : ℕ) → walk-tree-lts.Need-loop-again (callees t) (
 walk-tree-loop-again t c =
     let k = c .before .before .before .before .before .before .before in
     let l = k .before .before in
-    let a = l .before .before .before .before .before .before .before .before .before .args in
+    let a = l .before .before .before .before .before .before .before .before .before .before .args in
     let f = walk (directoryOf (now (a .file)) (a .book)) (shapeOf (a .book)) (a .level - 1) in
     let v = visited (now (a .file)) (a .book) (a .c) f (l .loop .at) (l .loop .inv .0) (l .loop .next) (l .loop .k) (l .loop .rest) (k .before .loop-test .taken) (l .loop .inv .1) in
     let g = c .before .before .before .before .before in
@@ -168,7 +179,7 @@ walk-tree-loop-again t c =
 walk-tree-returns-8 : (t : ℕ) → walk-tree-lts.Need-returns-8 (callees t) (walk-tree-at t) walk-tree.Post walk-tree-Inv-loop walk-tree-μ-loop
 walk-tree-returns-8 t c =
     let l = c .before in
-    let a = l .before .before .before .before .before .before .before .before .before .args in
+    let a = l .before .before .before .before .before .before .before .before .before .before .args in
     let f = walk (directoryOf (now (a .file)) (a .book)) (shapeOf (a .book)) (a .level - 1) in
     let z = none-left (now (a .file)) (a .book) (a .c) (l .loop .rest) (l .loop .at) (l .loop .inv .0) (omega arith) (l .loop .inv .1) in
     ap progressOf (sym (ap (λ (ys : List Entry). visit (intoChild (directoryOf (now (a .file)) (a .book)) f) ys (l .loop .next) (l .loop .k)) z) ∙ l .loop .inv .2)
@@ -186,8 +197,9 @@ pub +walk-tree-spec : {M : Type 1} → statement M
     (walk-tree-returns-4 t)
     (walk-tree-is-index-requires t)
     (walk-tree-returns-5 t)
+    (walk-tree-first-place-requires t)
     (walk-tree-chunk-bytes-requires t)
-    (walk-tree-le16-requires t)
+    (walk-tree-entry-count-requires t)
     (walk-tree-sub-k t)
     (walk-tree-loop-holds t)
     (walk-tree-child-at-requires t)

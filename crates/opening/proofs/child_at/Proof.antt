@@ -1,6 +1,5 @@
 use borrow.Author.Needs.{needs}
 use mathlib.Core.Path.{_≡_, sym, ap, _∙_}
-use mathlib.Core.Bool.{false}
 use native.Mathlib.Nat.{add-sub-cancel-left}
 use native.Mathlib.Omega.{arith}
 use Prim.Native.Nat.{_+_, _≤_, _<_}
@@ -11,6 +10,7 @@ use Rattle.entries.specs.Entry.{itemAt, nameOf}
 use Rattle.entries.specs.declared.Item.{Item}
 use Rattle.entries.specs.declared.Item.the-variants.{Good, Bad}
 use Rattle.entries.proofs.Laws.{item-inside, index-apart}
+use Rattle.entries.specs.declared.Kind.the-variants.{Index}
 use Rattle.tree.specs.Shape.{firstName}
 use Rattle.book.specs.Book.{limitsOf, chunkBytes, directoryOf}
 use Rattle.opening.specs.Passes.{childAt}
@@ -19,11 +19,11 @@ use Rattle.opening.proofs.child_at.Tie as tie
 
 -- what was read, in terms of the chunk
 asked : (c : tie.After-item-at) → let a = c .before .before .before .before .args in
-    c .item-at .result ≡ itemAt (limitsOf (now (a .file)) (a .book)) false (chunkBytes (now (a .file)) (a .book) (a .c)) (a .at)
+    c .item-at .result ≡ itemAt (limitsOf (now (a .file)) (a .book)) Index (chunkBytes (now (a .file)) (a .book) (a .c)) (a .at)
 asked c = rw (← c .before .limits .ensures, ← c .before .before .chunk-bytes .ensures) (c .item-at .ensures)
 
 read-is : (c : tie.After-x) → let a = c .before .before .before .before .before .before .args in
-    itemAt (limitsOf (now (a .file)) (a .book)) false (chunkBytes (now (a .file)) (a .book) (a .c)) (a .at) ≡ Good (c .x .given .0 .0)
+    itemAt (limitsOf (now (a .file)) (a .book)) Index (chunkBytes (now (a .file)) (a .book) (a .c)) (a .at) ≡ Good (c .x .given .0 .0)
 read-is c = sym (asked (c .before .before)) ∙ c .x .given .1
 
 inside : (c : tie.After-known-told) → let b = c .before .before .before .before .before in let e = c .before .x .given .0 .0 in

@@ -8,33 +8,29 @@ use Rattle.opening.proofs.first_of.Tie as tie
 chunk-bytes-requires : tie.Need-chunk-bytes-requires
 chunk-bytes-requires c κs = search needs
 
-slice-aggregate-stands-at : tie.Need-slice-aggregate-stands-at
-slice-aggregate-stands-at c = search needs
-
-stands-at-requires : tie.Need-stands-at-requires
-stands-at-requires c κs = search needs
-
 limits-requires : tie.Need-limits-requires
 limits-requires c κs = search needs
+
+kind-of-requires : tie.Need-kind-of-requires
+kind-of-requires c κs = search needs
 
 first-entry-requires : tie.Need-first-entry-requires
 first-entry-requires c κs = search needs
 
 returns : tie.Need-returns
 returns c =
-    let b = c .before .before .before .before in
+    let b = c .before .before .before in
     let a = b .before .before .args in
     let p = b .before .before .pre in
     first-of-good (now (a .file)) (a .book) (p .0) (a .c) (p .1) (c .first-entry .result)
-    (rw (← c .before .limits .ensures, ← b .chunk-bytes .ensures, ← c .before .before .stands-at .ensures) (c .first-entry .ensures))
+    (rw (← c .before .before .limits .ensures, ← b .chunk-bytes .ensures, ← c .before .kind-of .ensures) (c .first-entry .ensures))
 
 pub first-of-spec : {M : Type 1} → statement M
 first-of-spec =
     tie.close
     (tie.spec
     chunk-bytes-requires
-    slice-aggregate-stands-at
-    stands-at-requires
     limits-requires
+    kind-of-requires
     first-entry-requires
     returns)

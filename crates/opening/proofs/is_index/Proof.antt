@@ -1,11 +1,11 @@
 use borrow.Author.Needs.{needs}
 use mathlib.Core.Path.{_≡_, sym, ap, _∙_}
-use mathlib.Core.Bool.{not}
 use native.Mathlib.Omega.{arith}
 use denote.Ref.{now}
+use Rattle.chunk.specs.Chunk.{kindOf}
 use Rattle.tree.proofs.Chunks.{past-count}
 use Rattle.book.specs.Book.{directoryOf, shapeOf}
-use Rattle.opening.proofs.Tags.{index-inside}
+use Rattle.opening.proofs.Tags.{listing-tagged, index-tagged}
 use Rattle.opening.proofs.is_index.Statement.{statement}
 use Rattle.opening.proofs.is_index.Tie as tie
 
@@ -17,19 +17,32 @@ returns c =
 chunk-bytes-requires : tie.Need-chunk-bytes-requires
 chunk-bytes-requires c κs = search needs
 
-slice-aggregate-stands-at : tie.Need-slice-aggregate-stands-at
-slice-aggregate-stands-at c = search needs
+kind-of-requires : tie.Need-kind-of-requires
+kind-of-requires c κs = search needs
 
-stands-at-requires : tie.Need-stands-at-requires
-stands-at-requires c κs = search needs
+enum-told : tie.Need-enum-told
+enum-told c = search needs
+
+enum-told-2 : tie.Need-enum-told-2
+enum-told-2 c = search needs
 
 returns-2 : tie.Need-returns-2
 returns-2 c =
-    let e = c .before .before .before in
+    let k = c .before .before in
+    let e = k .before .before in
     let a = e .before .before .before .args in
-    rw (index-inside (now (a .file)) (a .book) (e .before .before .before .pre) (a .c) (omega arith), ← c .before .before .chunk-bytes .ensures) (ap not (c .stands-at .ensures))
+    sym (listing-tagged (now (a .file)) (a .book) (e .before .before .before .pre) (a .c) (omega arith)
+    (ap kindOf (sym (k .before .chunk-bytes .ensures)) ∙ sym (k .kind-of .ensures) ∙ c .enum-told .given .1) .1)
+
+returns-3 : tie.Need-returns-3
+returns-3 c =
+    let k = c .before .before in
+    let e = k .before .before in
+    let a = e .before .before .before .args in
+    sym (index-tagged (now (a .file)) (a .book) (e .before .before .before .pre) (a .c) (omega arith)
+    (ap kindOf (sym (k .before .chunk-bytes .ensures)) ∙ sym (k .kind-of .ensures) ∙ c .enum-told2 .given .1) .1)
 
 pub is-index-spec : {M : Type 1} → statement M
 is-index-spec =
     tie.close
-    (tie.spec returns chunk-bytes-requires slice-aggregate-stands-at stands-at-requires returns-2)
+    (tie.spec returns chunk-bytes-requires kind-of-requires enum-told enum-told-2 returns-2 returns-3)

@@ -5,12 +5,13 @@ use mathlib.Core.Bool.{true, false}
 use lib.Dec.{eqb}
 use denote.Ref.{now}
 use Rattle.fields.proofs.Tests.{held, failed}
+use Rattle.chunk.specs.Chunk.{previousLink, nextLink}
 use Rattle.refusals.specs.Refusals.{noChunk}
 use Rattle.tree.specs.Shape.{previousOf, nextOf, listingChunk}
 use Rattle.tree.proofs.Chunks.{listing-chunk}
 use Rattle.book.specs.Book.{directoryOf, shapeOf}
 use Rattle.opening.specs.Passes.{linkOf}
-use Rattle.opening.proofs.Tags.{Tagged, tagged-chunk}
+use Rattle.opening.proofs.Tags.{links-stand}
 use Rattle.opening.proofs.link_from.Statement.{statement}
 use Rattle.opening.proofs.link_from.Tie as tie
 
@@ -18,23 +19,24 @@ use Rattle.opening.proofs.link_from.Tie as tie
 is-there : (c : tie.Else1) → let a = c .before .before .before .args in listingChunk (directoryOf (now (a .file)) (a .book)) (shapeOf (a .book)) (a .c) ≡ true
 is-there c = held (c .before .is-listing .ensures) (c .if1 .left)
 
-tagged-is : (c : tie.After-chunk-bytes) → let a = c .before .before .before .before .args in
-    Tagged (directoryOf (now (a .file)) (a .book) (a .c)) (now (c .chunk-bytes .result))
-tagged-is c =
+links-are : (c : tie.After-chunk-bytes) → let a = c .before .before .before .before .args in let p = directoryOf (now (a .file)) (a .book) (a .c) in
+    (previousOf p ≡ previousLink (now (c .chunk-bytes .result))) × (nextOf p ≡ nextLink (now (c .chunk-bytes .result)))
+links-are c =
     let k = c .before .before .before .before in
     let a = k .args in
-    rw (c .chunk-bytes .ensures) (tagged-chunk (now (a .file)) (a .book) (k .pre) (a .c) (listing-chunk _ _ _ (is-there (c .before)) .0))
+    let b = listing-chunk _ _ _ (is-there (c .before)) in
+    rw (c .chunk-bytes .ensures) (links-stand (now (a .file)) (a .book) (k .pre) (a .c) (b .0) (b .1))
 
-previous-is : (c : tie.After-le32) → let a = c .before .before .before .before .before .args in
-    previousOf (directoryOf (now (a .file)) (a .book) (a .c)) ≡ c .le32 .result
-previous-is c = tagged-is (c .before) .previous (listing-chunk _ _ _ (is-there (c .before .before)) .1) ∙ sym (c .le32 .ensures)
+previous-is : (c : tie.After-previous-link) → let a = c .before .before .before .before .before .args in
+    previousOf (directoryOf (now (a .file)) (a .book) (a .c)) ≡ c .previous-link .result
+previous-is c = links-are (c .before) .0 ∙ sym (c .previous-link .ensures)
 
-next-is : (c : tie.After-le322) → let a = c .before .before .before .before .before .before .before .args in
-    nextOf (directoryOf (now (a .file)) (a .book) (a .c)) ≡ c .le322 .result
-next-is c = let b = c .before .before .before in tagged-is b .next (listing-chunk _ _ _ (is-there (b .before)) .1) ∙ sym (c .le322 .ensures)
+next-is : (c : tie.After-next-link) → let a = c .before .before .before .before .before .before .before .args in
+    nextOf (directoryOf (now (a .file)) (a .book) (a .c)) ≡ c .next-link .result
+next-is c = links-are (c .before .before .before) .1 ∙ sym (c .next-link .ensures)
 
 -- another chunk follows
-another : (c : tie.Else3) → eqb (c .before .before .le322 .result) noChunk ≡ false
+another : (c : tie.Else3) → eqb (c .before .before .next-link .result) noChunk ≡ false
 another c = ne-eqb _ noChunk (λ q. c .if3 .left (q ∙ sym (c .before .no-chunk .ensures)))
 
 is-listing-requires : tie.Need-is-listing-requires
@@ -47,8 +49,8 @@ returns c = rw (failed (c .before .is-listing .ensures) (c .if1 .taken))
 chunk-bytes-requires : tie.Need-chunk-bytes-requires
 chunk-bytes-requires c κs = search needs
 
-le32-requires : tie.Need-le32-requires
-le32-requires c κs = search needs
+previous-link-requires : tie.Need-previous-link-requires
+previous-link-requires c κs = search needs
 
 cast-if2 : tie.Need-cast-if2
 cast-if2 c = search needs
@@ -57,8 +59,8 @@ returns-2 : tie.Need-returns-2
 unfolding linkOf
 returns-2 c = rw (is-there (c .before .before .before), previous-is (c .before), ne-eqb _ _ (c .if2 .taken))
 
-le32-requires-2 : tie.Need-le32-requires-2
-le32-requires-2 c κs = search needs
+next-link-requires : tie.Need-next-link-requires
+next-link-requires c κs = search needs
 
 cast-next : tie.Need-cast-next
 cast-next c = search needs
@@ -117,10 +119,10 @@ link-from-spec =
     is-listing-requires
     returns
     chunk-bytes-requires
-    le32-requires
+    previous-link-requires
     cast-if2
     returns-2
-    le32-requires-2
+    next-link-requires
     cast-next
     no-chunk-requires
     cast-if3

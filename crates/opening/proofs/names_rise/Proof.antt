@@ -1,11 +1,11 @@
 use borrow.Author.Needs.{needs}
 use mathlib.Core.Path.{_≡_, sym, ap, _∙_}
-use mathlib.Core.Bool.{true}
 use native.Mathlib.Nat.{add-sub-cancel-left}
 use native.Mathlib.Omega.{arith}
 use Prim.Native.Nat.{_+_, _≤_}
 use lib.ListN.{length}
 use denote.Ref.{now}
+use Rattle.entries.specs.declared.Kind.the-variants.{Listing}
 use Rattle.seek.specs.Seek.{lastIn}
 use Rattle.seek.specs.declared.Hit.{Hit}
 use Rattle.seek.specs.declared.Hit.the-variants.{At, Nothing}
@@ -18,7 +18,7 @@ use Rattle.opening.proofs.names_rise.Tie as tie
 
 -- the answer in terms of the chunk
 asked : (c : tie.After-last-entry) → let a = c .before .before .before .before .args in
-    c .last-entry .result ≡ lastIn (limitsOf (now (a .file)) (a .book)) true (chunkBytes (now (a .file)) (a .book) (a .c))
+    c .last-entry .result ≡ lastIn (limitsOf (now (a .file)) (a .book)) Listing (chunkBytes (now (a .file)) (a .book) (a .c))
 asked c = rw (← c .before .limits .ensures, ← c .before .before .chunk-bytes .ensures) (c .last-entry .ensures)
 
 hit : (c : tie.After-e) → let a = c .before .before .before .before .before .before .args in
@@ -28,7 +28,7 @@ hit c =
     let l = c .before .before in
     let k = l .before .before .before .before in
     let a = k .args in
-    last-hit (limitsOf (now (a .file)) (a .book)) true (chunkBytes (now (a .file)) (a .book) (a .c)) (listing-chunk (directoryOf (now (a .file)) (a .book)) (shapeOf (a .book)) (a .c) (k .pre .2) .1)
+    last-hit (limitsOf (now (a .file)) (a .book)) Listing (chunkBytes (now (a .file)) (a .book) (a .c)) (listing-chunk (directoryOf (now (a .file)) (a .book)) (shapeOf (a .book)) (a .c) (k .pre .2) .1)
     (c .e .given .0 .0) (sym (c .e .given .1) ∙ asked l)
 
 inside : (c : tie.After-known-told) → let b = c .before .before .before .before .before in let e = c .before .e .given .0 .0 in
@@ -56,7 +56,7 @@ returns c =
     let l = c .before .before in
     let k = l .before .before .before .before in
     let a = k .args in
-    absurd (last-found (limitsOf (now (a .file)) (a .book)) true (chunkBytes (now (a .file)) (a .book) (a .c)) (listing-chunk (directoryOf (now (a .file)) (a .book)) (shapeOf (a .book)) (a .c) (k .pre .2) .1)
+    absurd (last-found (limitsOf (now (a .file)) (a .book)) Listing (chunkBytes (now (a .file)) (a .book) (a .c)) (listing-chunk (directoryOf (now (a .file)) (a .book)) (shapeOf (a .book)) (a .c) (k .pre .2) .1)
     (sym (c .enum-told .given .1) ∙ asked l))
 
 add-is-before : tie.Need-add-is-before

@@ -1,15 +1,14 @@
 use borrow.Author.Needs.{needs}
-use mathlib.Core.Path.{_≡_, refl, sym, ap, _∙_}
+use mathlib.Core.Path.{_≡_, refl, sym, _∙_}
 use native.Mathlib.Nat.{sub-zero}
 use native.Mathlib.Omega.{arith}
 use Prim.Native.Nat.{_+_, _-_, _≤_, _<_}
 use denote.Ref.{now}
-use Rattle.chunk.specs.Chunk.{faultOf}
 use Rattle.chunk.specs.Answer.{chunkOf}
 use Rattle.book.specs.Book.{directoryOf}
-use Rattle.opening.specs.Passes.{numberOf, listingOne, surveyed}
+use Rattle.opening.specs.Passes.{surveyed}
 use Rattle.book.proofs.Meeting.{met-inside}
-use Rattle.opening.proofs.Surveys.{number-fault, one-most, survey-fault, survey-on, survey-end}
+use Rattle.opening.proofs.Surveys.{survey-fault, survey-end, survey-listing, survey-index}
 use Rattle.opening.proofs.survey_chunks.Statement.{statement}
 use Rattle.opening.proofs.survey_chunks.Tie as tie
 
@@ -22,60 +21,77 @@ abbrev μ-loop : tie.MeasureT-loop
 
 -- the check's answer, in terms of the directory
 met-is : (c : tie.After-met Inv-loop μ-loop) → let l = c .before .before in let a = l .before .before .args in
-    c .met .result ≡ chunkOf (directoryOf (now (a .file)) (a .book) (l .loop .c))
+    chunkOf (directoryOf (now (a .file)) (a .book) (l .loop .c)) ≡ c .met .result
 met-is c =
     let l = c .before .before in
     let a = l .before .before .args in
-    c .met .ensures ∙ met-inside (now (a .file)) (a .book) (l .loop .c) (omega arith)
+    sym (c .met .ensures ∙ met-inside (now (a .file)) (a .book) (l .loop .c) (omega arith))
 
-fault-is : (c : tie.After-fault-number Inv-loop μ-loop) → let l = c .before .before .before in let a = l .before .before .args in
-    c .fault-number .result ≡ faultOf (directoryOf (now (a .file)) (a .book) (l .loop .c))
-fault-is c = c .fault-number .ensures ∙ ap numberOf (met-is (c .before)) ∙ number-fault _
+-- with one chunk less to go
+one-less : (c : tie.After-met Inv-loop μ-loop) → let l = c .before .before in let a = l .before .before .args in
+    a .book .count - (l .loop .c + 1) ≡ a .book .count - l .loop .c - 1
+one-less c = omega arith
 
 loop-holds : tie.Need-loop-holds Inv-loop μ-loop
 loop-holds c = (omega arith, omega arith, rw sub-zero refl)
 
+add-c : tie.Need-add-c Inv-loop μ-loop
+add-c c = search needs
+
 met-requires : tie.Need-met-requires Inv-loop μ-loop
 met-requires c κs = search needs
 
-fault-number-requires : tie.Need-fault-number-requires Inv-loop μ-loop
-fault-number-requires c κs = search needs
+enum-known-n : tie.Need-enum-known-n Inv-loop μ-loop
+enum-known-n c = search needs
 
-cast-t9 : tie.Need-cast-t9 Inv-loop μ-loop
-cast-t9 c = search needs
+cast-t10 : tie.Need-cast-t10 Inv-loop μ-loop
+cast-t10 c = search needs
 
 returns : tie.Need-returns Inv-loop μ-loop
 returns c =
-    let f = c .before in
-    let l = f .before .before .before in
+    let m = c .before .before .before in
+    let l = m .before .before in
     let a = l .before .before .args in
-    rw (fault-is f)
-    (sym (survey-fault (directoryOf (now (a .file)) (a .book)) (a .book .count - l .loop .c) (l .loop .c) (l .loop .listings) (omega arith) (rw (← fault-is f) (c .if1 .taken)))
-    ∙ l .loop .inv .2)
+    sym (survey-fault (directoryOf (now (a .file)) (a .book)) (a .book .count - l .loop .c) (l .loop .c) (l .loop .listings) (c .before .n .given .0 .0) (omega arith) (met-is m ∙ c .before .n .given .1))
+    ∙ l .loop .inv .2
 
-one-listing-requires : tie.Need-one-listing-requires Inv-loop μ-loop
-one-listing-requires c κs = search needs
+enum-told : tie.Need-enum-told Inv-loop μ-loop
+enum-told c = search needs
 
 add-listings : tie.Need-add-listings Inv-loop μ-loop
-add-listings c = let l = c .before .before .before .before .before in omega (arith, c .one-listing .ensures, one-most (c .before .before .before .met .result))
-
-add-c : tie.Need-add-c Inv-loop μ-loop
-add-c c = search needs
+add-listings c = search needs
 
 loop-less : tie.Need-loop-less Inv-loop μ-loop
 loop-less c = search needs
 
 loop-again : tie.Need-loop-again Inv-loop μ-loop
 loop-again c =
-    let f = c .before .before in
-    let l = f .before .before .before in
+    let m = c .before .before in
+    let l = m .before .before in
     let a = l .before .before .args in
-    let D = directoryOf (now (a .file)) (a .book) in
-    let z : a .book .count - (l .loop .c + 1) ≡ a .book .count - l .loop .c - 1 = omega arith in (
+    let D = directoryOf (now (a .file)) (a .book) in (
       omega arith,
-      omega (arith, c .one-listing .ensures, one-most (f .before .met .result)),
-      rw (z, c .one-listing .ensures, met-is (f .before))
-          (sym (survey-on D (a .book .count - l .loop .c) (l .loop .c) (l .loop .listings) (omega arith) (sym (fault-is f) ∙ c .before .if1 .left)) ∙ l .loop .inv .2),
+      omega arith,
+      rw (one-less m)
+          (sym (survey-listing D (a .book .count - l .loop .c) (l .loop .c) (l .loop .listings) _ _ (omega arith) (met-is m ∙ c .enum-told .given .1)) ∙ l .loop .inv .2),
+    )
+
+enum-told-2 : tie.Need-enum-told-2 Inv-loop μ-loop
+enum-told-2 c = search needs
+
+loop-less-2 : tie.Need-loop-less-2 Inv-loop μ-loop
+loop-less-2 c = search needs
+
+loop-again-2 : tie.Need-loop-again-2 Inv-loop μ-loop
+loop-again-2 c =
+    let m = c .before .before in
+    let l = m .before .before in
+    let a = l .before .before .args in
+    let D = directoryOf (now (a .file)) (a .book) in (
+      omega arith,
+      omega arith,
+      rw (one-less m)
+          (sym (survey-index D (a .book .count - l .loop .c) (l .loop .c) (l .loop .listings) (omega arith) (met-is m ∙ c .enum-told2 .given .1)) ∙ l .loop .inv .2),
     )
 
 returns-2 : tie.Need-returns-2 Inv-loop μ-loop
@@ -91,13 +107,16 @@ survey-chunks-spec =
     Inv-loop
     μ-loop
     loop-holds
-    met-requires
-    fault-number-requires
-    cast-t9
-    returns
-    one-listing-requires
-    add-listings
     add-c
+    met-requires
+    enum-known-n
+    cast-t10
+    returns
+    enum-told
+    add-listings
     loop-less
     loop-again
+    enum-told-2
+    loop-less-2
+    loop-again-2
     returns-2)

@@ -1,6 +1,5 @@
 use borrow.Author.Needs.{needs}
 use mathlib.Core.Path.{_≡_, refl, sym, ap, ap₂, _∙_}
-use mathlib.Core.Bool.{false}
 use Prim.Native.Nat.{ℕ, _+_, _-_, _≤_, _<_}
 use native.Mathlib.Nat.{add-sub-cancel-left}
 use native.Mathlib.Omega.{arith}
@@ -14,6 +13,7 @@ use Rattle.encint.specs.declared.Number.the-variants.{Value}
 use Rattle.entries.specs.Entry.{nameAt, indexAt, itemAt, withItem}
 use Rattle.entries.specs.declared.Item.the-variants.{Good}
 use Rattle.entries.proofs.Laws.{name-next, index-broken, index-wide, index-whole}
+use Rattle.entries.specs.declared.Kind.the-variants.{Index}
 use Rattle.seek.specs.Seek.{groupAt, groupIn, sizeIn, chooseIn, childOf}
 use Rattle.seek.specs.Count.{halvingsIn, costIn}
 use Rattle.seek.specs.declared.CountedHit.{CountedHit}
@@ -32,26 +32,26 @@ abbrev Inv-loop : tie.InvT-loop
 Inv-loop c limits name group best₀ at₀ left₀ best at left =
     (h : Hit)
     × (best ≡ childOf h)
-    × (chooseFrom limits c (compared name) h (spentIn limits false c (compared name) left) left at
-    ≡ record { hit = chooseIn limits c (compared name); count = costIn limits false c (compared name) })
-    × (left ≤ sizeIn limits c (groupIn limits false c (compared name)))
+    × (chooseFrom limits c (compared name) h (spentIn limits Index c (compared name) left) left at
+    ≡ record { hit = chooseIn limits c (compared name); count = costIn limits Index c (compared name) })
+    × (left ≤ sizeIn limits c (groupIn limits Index c (compared name)))
 
 abbrev μ-loop : tie.MeasureT-loop
 μ-loop c limits name group best₀ at₀ left₀ best at left = left
 
 -- what the code says was compared, and that it fits
 spent-told : (c : tie.After-group-for Inv-loop μ-loop) (left : ℕ) → let a = c .before .before .before .args in
-    c .group-for .result .count + (c .group-for .result .size - left) ≡ spentIn (a .limits) false (now (a .c)) (compared (now (a .name))) left
+    c .group-for .result .count + (c .group-for .result .size - left) ≡ spentIn (a .limits) Index (now (a .c)) (compared (now (a .name))) left
 spent-told c left =
     let a = c .before .before .before .args in
-    spent-is (a .limits) false (now (a .c)) (compared (now (a .name))) _ _ (c .group-for .ensures .1) (c .group-for .ensures .2) left
+    spent-is (a .limits) Index (now (a .c)) (compared (now (a .name))) _ _ (c .group-for .ensures .1) (c .group-for .ensures .2) left
 
 room : (l : tie.At-loop Inv-loop μ-loop) (left : ℕ) → left ≤ l .loop .left
     → (left ≤ l .before .group-for .result .size) × (l .before .group-for .result .size < 65536) × (l .before .group-for .result .count < 65536)
 room l left h =
     let c = l .before in
     let a = c .before .before .before .args in
-    spent-fits (a .limits) false (now (a .c)) (compared (now (a .name))) _ _ (c .group-for .ensures .1) (c .group-for .ensures .2)
+    spent-fits (a .limits) Index (now (a .c)) (compared (now (a .name))) _ _ (c .group-for .ensures .1) (c .group-for .ensures .2)
     (le-lt (now (a .c)) (λ j. c .before .before .shared-slice-known .given j .fits) 2 4094) left (omega (arith, h, l .loop .inv .3))
 
 -- the child of what was chosen, beside the count
@@ -86,7 +86,7 @@ number-is c = sym (c .before .before .read .ensures .0) ∙ c .child .given .1
 -- the entry
 read-is : (c : tie.Else1 Inv-loop μ-loop) → let d = c .before .before .before in let n = d .before .before .before .before .before .before .before .before in
     let l = n .before .before .before .before in let a = l .before .before .before .before .args in
-    itemAt (a .limits) false (now (a .c)) (l .loop .at)
+    itemAt (a .limits) Index (now (a .c)) (l .loop .at)
     ≡ Good (record { at = l .loop .at; start = n .n .given .0 .1 .0; len = n .n .given .0 .0; section = 0; offset = 0; size = 0; child = d .child .given .0 .0; next = d .child .given .0 .1 .0 })
 read-is c =
     let d = c .before .before .before in
@@ -102,12 +102,12 @@ loop-holds : tie.Need-loop-holds Inv-loop μ-loop
 unfolding costIn
 loop-holds c =
     let a = c .before .before .before .args in
-    let s = sizeIn (a .limits) (now (a .c)) (groupIn (a .limits) false (now (a .c)) (compared (now (a .name)))) in
-    let z : spentIn (a .limits) false (now (a .c)) (compared (now (a .name))) s ≡ halvingsIn (a .limits) false (now (a .c)) (compared (now (a .name))) = omega arith in (
+    let s = sizeIn (a .limits) (now (a .c)) (groupIn (a .limits) Index (now (a .c)) (compared (now (a .name)))) in
+    let z : spentIn (a .limits) Index (now (a .c)) (compared (now (a .name))) s ≡ halvingsIn (a .limits) Index (now (a .c)) (compared (now (a .name))) = omega arith in (
       Nothing,
       refl,
       rw (c .group-for .ensures .0, c .group-for .ensures .1)
-          (ap (λ (n : ℕ). chooseFrom (a .limits) (now (a .c)) (compared (now (a .name))) Nothing n s (groupAt false (now (a .c)) (groupIn (a .limits) false (now (a .c)) (compared (now (a .name)))))) z),
+          (ap (λ (n : ℕ). chooseFrom (a .limits) (now (a .c)) (compared (now (a .name))) Nothing n s (groupAt Index (now (a .c)) (groupIn (a .limits) Index (now (a .c)) (compared (now (a .name)))))) z),
       omega (arith, c .group-for .ensures .1),
     )
 
@@ -131,7 +131,7 @@ returns c =
     let a = l .before .before .before .before .args in
     let i = l .loop .inv in
     ended _ _ _ _ _ _ (c .child-of .ensures) (spent-told (l .before) (l .loop .left)) (i .1)
-    (sym (choose-unnamed (a .limits) (now (a .c)) (compared (now (a .name))) (i .0) (spentIn (a .limits) false (now (a .c)) (compared (now (a .name))) (l .loop .left)) (l .loop .left) (l .loop .at) (t .loop-test .taken) (sym (e .before .before .name-at .ensures) ∙ e .enum-told .given .1)) ∙ i .2)
+    (sym (choose-unnamed (a .limits) (now (a .c)) (compared (now (a .name))) (i .0) (spentIn (a .limits) Index (now (a .c)) (compared (now (a .name))) (l .loop .left)) (l .loop .left) (l .loop .at) (t .loop-test .taken) (sym (e .before .before .name-at .ensures) ∙ e .enum-told .given .1)) ∙ i .2)
 
 add-behind : tie.Need-add-behind Inv-loop μ-loop
 add-behind c = omega (arith, inside (c .before))
@@ -166,8 +166,8 @@ returns-2 c =
     let a = l .before .before .before .before .args in
     let i = l .loop .inv in
     ended _ _ _ _ _ _ (c .child-of2 .ensures) (spent-told (l .before) (l .loop .left - 1)) (i .1)
-    (sym (choose-above (a .limits) (now (a .c)) (compared (now (a .name))) (i .0) (spentIn (a .limits) false (now (a .c)) (compared (now (a .name))) (l .loop .left)) (l .loop .left) (l .loop .at) _ _ (t .loop-test .taken) (name-is n) _
-    (spent-next (a .limits) false (now (a .c)) (compared (now (a .name))) (l .loop .left) (t .loop-test .taken) (i .3)) (sym (compared-is o) ∙ c .before .enum-told2 .given .1)) ∙ i .2)
+    (sym (choose-above (a .limits) (now (a .c)) (compared (now (a .name))) (i .0) (spentIn (a .limits) Index (now (a .c)) (compared (now (a .name))) (l .loop .left)) (l .loop .left) (l .loop .at) _ _ (t .loop-test .taken) (name-is n) _
+    (spent-next (a .limits) Index (now (a .c)) (compared (now (a .name))) (l .loop .left) (t .loop-test .taken) (i .3)) (sym (compared-is o) ∙ c .before .enum-told2 .given .1)) ∙ i .2)
 
 enum-told-3 : tie.Need-enum-told-3 Inv-loop μ-loop
 enum-told-3 c = search needs
@@ -187,8 +187,8 @@ returns-3 c =
     let l = t .before in
     let a = l .before .before .before .before .args in
     let i = l .loop .inv in
-    let e = choose-equal (a .limits) (now (a .c)) (compared (now (a .name))) (i .0) (spentIn (a .limits) false (now (a .c)) (compared (now (a .name))) (l .loop .left)) (l .loop .left) (l .loop .at) _ _ (t .loop-test .taken) (name-is n) _
-    (spent-next (a .limits) false (now (a .c)) (compared (now (a .name))) (l .loop .left) (t .loop-test .taken) (i .3)) (sym (compared-is o) ∙ d .before .enum-told3 .given .1) in
+    let e = choose-equal (a .limits) (now (a .c)) (compared (now (a .name))) (i .0) (spentIn (a .limits) Index (now (a .c)) (compared (now (a .name))) (l .loop .left)) (l .loop .left) (l .loop .at) _ _ (t .loop-test .taken) (name-is n) _
+    (spent-next (a .limits) Index (now (a .c)) (compared (now (a .name))) (l .loop .left) (t .loop-test .taken) (i .3)) (sym (compared-is o) ∙ d .before .enum-told3 .given .1) in
     c .child-of3 .ensures
     ∙ ap₂ (λ (x : Child) (m : ℕ). record { child = x; count = m })
     (d .child-at .ensures ∙ ap (λ x. withItem (indexAt (a .limits .count) (now (a .c)) (l .loop .at)) x (λ e. Below (e .child))) (i .1) ∙ e .0) (spent-told (l .before) (l .loop .left - 1) ∙ e .1)
@@ -220,8 +220,8 @@ returns-4 c =
     let a = l .before .before .before .before .args in
     let i = l .loop .inv in
     ended _ _ _ _ _ _ (c .child-of4 .ensures) (spent-told (l .before) (l .loop .left - 1)) (i .1)
-    (sym (choose-barred (a .limits) (now (a .c)) (compared (now (a .name))) (i .0) (spentIn (a .limits) false (now (a .c)) (compared (now (a .name))) (l .loop .left)) (l .loop .left) (l .loop .at) _ _ (t .loop-test .taken) (name-is n) _
-    (spent-next (a .limits) false (now (a .c)) (compared (now (a .name))) (l .loop .left) (t .loop-test .taken) (i .3)) (sym (compared-is o) ∙ r .before .enum-told4 .given .1)
+    (sym (choose-barred (a .limits) (now (a .c)) (compared (now (a .name))) (i .0) (spentIn (a .limits) Index (now (a .c)) (compared (now (a .name))) (l .loop .left)) (l .loop .left) (l .loop .at) _ _ (t .loop-test .taken) (name-is n) _
+    (spent-next (a .limits) Index (now (a .c)) (compared (now (a .name))) (l .loop .left) (t .loop-test .taken) (i .3)) (sym (compared-is o) ∙ r .before .enum-told4 .given .1)
     (index-broken (a .limits) (now (a .c)) (l .loop .at) _ _ (name-is n) (sym (r .read .ensures .0) ∙ e .enum-told5 .given .1))) ∙ i .2)
 
 child-of-requires-5 : tie.Need-child-of-requires-5 Inv-loop μ-loop
@@ -239,8 +239,8 @@ returns-5 c =
     let a = l .before .before .before .before .args in
     let i = l .loop .inv in
     ended _ _ _ _ _ _ (c .child-of5 .ensures) (spent-told (l .before) (l .loop .left - 1)) (i .1)
-    (sym (choose-barred (a .limits) (now (a .c)) (compared (now (a .name))) (i .0) (spentIn (a .limits) false (now (a .c)) (compared (now (a .name))) (l .loop .left)) (l .loop .left) (l .loop .at) _ _ (t .loop-test .taken) (name-is n) _
-    (spent-next (a .limits) false (now (a .c)) (compared (now (a .name))) (l .loop .left) (t .loop-test .taken) (i .3)) (sym (compared-is o) ∙ r .before .enum-told4 .given .1)
+    (sym (choose-barred (a .limits) (now (a .c)) (compared (now (a .name))) (i .0) (spentIn (a .limits) Index (now (a .c)) (compared (now (a .name))) (l .loop .left)) (l .loop .left) (l .loop .at) _ _ (t .loop-test .taken) (name-is n) _
+    (spent-next (a .limits) Index (now (a .c)) (compared (now (a .name))) (l .loop .left) (t .loop-test .taken) (i .3)) (sym (compared-is o) ∙ r .before .enum-told4 .given .1)
     (index-wide (a .limits) (now (a .c)) (l .loop .at) _ _ (name-is n) _ _ (number-is d) (w .if1 .taken))) ∙ i .2)
 
 loop-less : tie.Need-loop-less Inv-loop μ-loop
@@ -258,8 +258,8 @@ loop-again c =
     let i = l .loop .inv in (
       At (record { at = l .loop .at; start = n .n .given .0 .1 .0; len = n .n .given .0 .0; section = 0; offset = 0; size = 0; child = d .child .given .0 .0; next = d .child .given .0 .1 .0 }),
       refl,
-      sym (choose-on (a .limits) (now (a .c)) (compared (now (a .name))) (i .0) (spentIn (a .limits) false (now (a .c)) (compared (now (a .name))) (l .loop .left)) (l .loop .left) (l .loop .at) _ _ (t .loop-test .taken) (name-is n) _
-          (spent-next (a .limits) false (now (a .c)) (compared (now (a .name))) (l .loop .left) (t .loop-test .taken) (i .3)) (sym (compared-is o) ∙ r .before .enum-told4 .given .1) _ (read-is c)) ∙ i .2,
+      sym (choose-on (a .limits) (now (a .c)) (compared (now (a .name))) (i .0) (spentIn (a .limits) Index (now (a .c)) (compared (now (a .name))) (l .loop .left)) (l .loop .left) (l .loop .at) _ _ (t .loop-test .taken) (name-is n) _
+          (spent-next (a .limits) Index (now (a .c)) (compared (now (a .name))) (l .loop .left) (t .loop-test .taken) (i .3)) (sym (compared-is o) ∙ r .before .enum-told4 .given .1) _ (read-is c)) ∙ i .2,
       omega (arith, i .3),
     )
 
@@ -272,7 +272,7 @@ returns-6 c =
     let l = w .before in
     let a = l .before .before .before .before .args in
     let i = l .loop .inv in
-    ended _ _ _ _ _ _ (c .child-of6 .ensures) (spent-told (l .before) (l .loop .left)) (i .1) (sym (choose-end (a .limits) (now (a .c)) (compared (now (a .name))) (i .0) (spentIn (a .limits) false (now (a .c)) (compared (now (a .name))) (l .loop .left)) (l .loop .left) (l .loop .at) (w .loop-test .left)) ∙ i .2)
+    ended _ _ _ _ _ _ (c .child-of6 .ensures) (spent-told (l .before) (l .loop .left)) (i .1) (sym (choose-end (a .limits) (now (a .c)) (compared (now (a .name))) (i .0) (spentIn (a .limits) Index (now (a .c)) (compared (now (a .name))) (l .loop .left)) (l .loop .left) (l .loop .at) (w .loop-test .left)) ∙ i .2)
 
 pub choose-spec : {M : Type 1} → statement M
 choose-spec =

@@ -10,10 +10,10 @@ use Rattle.seek.proofs.entry_behind.Statement.{statement}
 use Rattle.seek.proofs.entry_behind.Tie as tie
 
 abbrev Inv-loop : tie.InvT-loop
-Inv-loop c limits listing past from at₀ left₀ at left = afterAt limits listing c left at ≡ afterAt limits listing c past from
+Inv-loop c limits kind past from at₀ left₀ at left = afterAt limits kind c left at ≡ afterAt limits kind c past from
 
 abbrev μ-loop : tie.MeasureT-loop
-μ-loop c limits listing past from at₀ left₀ at left = left
+μ-loop c limits kind past from at₀ left₀ at left = left
 
 loop-holds : tie.Need-loop-holds Inv-loop μ-loop
 loop-holds c = refl
@@ -31,7 +31,7 @@ returns : tie.Need-returns Inv-loop μ-loop
 returns c =
     let l = c .before .before .before .before in
     let a = l .before .before .args in
-    sym (after-bad (a .limits) (a .listing) (now (a .c)) (l .loop .left) (l .loop .at) (sym (c .before .before .item-at .ensures) ∙ c .enum-told .given .1)) ∙ l .loop .inv
+    sym (after-bad (a .limits) (a .kind) (now (a .c)) (l .loop .left) (l .loop .at) (sym (c .before .before .item-at .ensures) ∙ c .enum-told .given .1)) ∙ l .loop .inv
 
 sub-left : tie.Need-sub-left Inv-loop μ-loop
 sub-left c = omega arith
@@ -44,7 +44,7 @@ loop-again c =
     let m = c .before in
     let l = m .before .before .before .before in
     let a = l .before .before .args in
-    sym (after-on (a .limits) (a .listing) (now (a .c)) (l .loop .left) (l .loop .at) (m .e .given .0 .0) (m .before .before .before .loop-test .taken) (sym (m .before .before .item-at .ensures) ∙ m .e .given .1)) ∙ l .loop .inv
+    sym (after-on (a .limits) (a .kind) (now (a .c)) (l .loop .left) (l .loop .at) (m .e .given .0 .0) (m .before .before .before .loop-test .taken) (sym (m .before .before .item-at .ensures) ∙ m .e .given .1)) ∙ l .loop .inv
 
 item-at-requires-2 : tie.Need-item-at-requires-2 Inv-loop μ-loop
 item-at-requires-2 c κs = search needs
@@ -60,13 +60,13 @@ returns-2 c =
     let m = c .before in
     let l = m .before .before .before .before in
     let a = l .before .before .args in
-    sym (after-here (a .limits) (a .listing) (now (a .c)) (l .loop .left) (l .loop .at) (m .e2 .given .0 .0) (m .before .before .before .loop-test .left) (sym (m .before .before .item-at2 .ensures) ∙ m .e2 .given .1)) ∙ l .loop .inv
+    sym (after-here (a .limits) (a .kind) (now (a .c)) (l .loop .left) (l .loop .at) (m .e2 .given .0 .0) (m .before .before .before .loop-test .left) (sym (m .before .before .item-at2 .ensures) ∙ m .e2 .given .1)) ∙ l .loop .inv
 
 returns-3 : tie.Need-returns-3 Inv-loop μ-loop
 returns-3 c =
     let l = c .before .before .before .before in
     let a = l .before .before .args in
-    sym (after-bad (a .limits) (a .listing) (now (a .c)) (l .loop .left) (l .loop .at) (sym (c .before .before .item-at2 .ensures) ∙ c .enum-told2 .given .1)) ∙ l .loop .inv
+    sym (after-bad (a .limits) (a .kind) (now (a .c)) (l .loop .left) (l .loop .at) (sym (c .before .before .item-at2 .ensures) ∙ c .enum-told2 .given .1)) ∙ l .loop .inv
 
 pub entry-behind-spec : {M : Type 1} → statement M
 entry-behind-spec =

@@ -1,6 +1,5 @@
 use borrow.Author.Needs.{needs}
 use mathlib.Core.Path.{_≡_, sym, ap, _∙_}
-use mathlib.Core.Bool.{true}
 use Prim.Native.Nat.{ℕ, _+_, _-_, _≤_, _<_}
 use native.Mathlib.Nat.{add-sub-cancel-left}
 use native.Mathlib.Omega.{arith}
@@ -10,6 +9,7 @@ use Rattle.names.specs.Names.{compared}
 use Rattle.entries.specs.Entry.{itemAt, nameOf}
 use Rattle.entries.specs.declared.Item.the-variants.{Good, Bad}
 use Rattle.entries.proofs.Laws.{Inside, item-inside}
+use Rattle.entries.specs.declared.Kind.the-variants.{Listing}
 use Rattle.seek.specs.Seek.{groupAt, groupIn, sizeIn, findIn}
 use Rattle.seek.specs.Count.{halvingsIn, costIn}
 use Rattle.seek.specs.declared.CountedHit.{CountedHit}
@@ -23,26 +23,26 @@ use Rattle.seek.proofs.find.Tie as tie
 -- so many entries of the group are left
 abbrev Inv-loop : tie.InvT-loop
 Inv-loop c limits name group at₀ left₀ at left =
-    (left ≤ sizeIn limits c (groupIn limits true c (compared name)))
-    × (findFrom limits c (compared name) (spentIn limits true c (compared name) left) left at
-    ≡ record { hit = findIn limits c (compared name); count = costIn limits true c (compared name) })
+    (left ≤ sizeIn limits c (groupIn limits Listing c (compared name)))
+    × (findFrom limits c (compared name) (spentIn limits Listing c (compared name) left) left at
+    ≡ record { hit = findIn limits c (compared name); count = costIn limits Listing c (compared name) })
 
 abbrev μ-loop : tie.MeasureT-loop
 μ-loop c limits name group at₀ left₀ at left = left
 
 -- what the code says was compared, and that it fits
 spent-told : (c : tie.After-group-for Inv-loop μ-loop) (left : ℕ) → let a = c .before .before .before .args in
-    c .group-for .result .count + (c .group-for .result .size - left) ≡ spentIn (a .limits) true (now (a .c)) (compared (now (a .name))) left
+    c .group-for .result .count + (c .group-for .result .size - left) ≡ spentIn (a .limits) Listing (now (a .c)) (compared (now (a .name))) left
 spent-told c left =
     let a = c .before .before .before .args in
-    spent-is (a .limits) true (now (a .c)) (compared (now (a .name))) _ _ (c .group-for .ensures .1) (c .group-for .ensures .2) left
+    spent-is (a .limits) Listing (now (a .c)) (compared (now (a .name))) _ _ (c .group-for .ensures .1) (c .group-for .ensures .2) left
 
 room : (l : tie.At-loop Inv-loop μ-loop) (left : ℕ) → left ≤ l .loop .left
     → (left ≤ l .before .group-for .result .size) × (l .before .group-for .result .size < 65536) × (l .before .group-for .result .count < 65536)
 room l left h =
     let c = l .before in
     let a = c .before .before .before .args in
-    spent-fits (a .limits) true (now (a .c)) (compared (now (a .name))) _ _ (c .group-for .ensures .1) (c .group-for .ensures .2)
+    spent-fits (a .limits) Listing (now (a .c)) (compared (now (a .name))) _ _ (c .group-for .ensures .1) (c .group-for .ensures .2)
     (le-lt (now (a .c)) (λ j. c .before .before .shared-slice-known .given j .fits) 2 4094) left (omega (arith, h, l .loop .inv .0))
 
 -- the search ends
@@ -51,12 +51,12 @@ ended n m h w p q = ap (λ (x : ℕ). record { hit = h; count = x }) p ∙ q
 
 -- what was read is an entry, or is none
 read-is : (c : tie.After-e Inv-loop μ-loop) → let l = c .before .before .before .before in let a = l .before .before .before .before .args in
-    itemAt (a .limits) true (now (a .c)) (l .loop .at) ≡ Good (c .e .given .0 .0)
+    itemAt (a .limits) Listing (now (a .c)) (l .loop .at) ≡ Good (c .e .given .0 .0)
 unfolding itemAt
 read-is c = sym (c .before .before .listing-at .ensures) ∙ c .e .given .1
 
 read-bad : (c : tie.After-enum-told Inv-loop μ-loop) → let l = c .before .before .before .before in let a = l .before .before .before .before .args in
-    itemAt (a .limits) true (now (a .c)) (l .loop .at) ≡ Bad
+    itemAt (a .limits) Listing (now (a .c)) (l .loop .at) ≡ Bad
 unfolding itemAt
 read-bad c = sym (c .before .before .listing-at .ensures) ∙ c .enum-told .given .1
 
@@ -76,11 +76,11 @@ loop-holds : tie.Need-loop-holds Inv-loop μ-loop
 unfolding costIn
 loop-holds c =
     let a = c .before .before .before .args in
-    let s = sizeIn (a .limits) (now (a .c)) (groupIn (a .limits) true (now (a .c)) (compared (now (a .name)))) in
-    let z : spentIn (a .limits) true (now (a .c)) (compared (now (a .name))) s ≡ halvingsIn (a .limits) true (now (a .c)) (compared (now (a .name))) = omega arith in (
+    let s = sizeIn (a .limits) (now (a .c)) (groupIn (a .limits) Listing (now (a .c)) (compared (now (a .name)))) in
+    let z : spentIn (a .limits) Listing (now (a .c)) (compared (now (a .name))) s ≡ halvingsIn (a .limits) Listing (now (a .c)) (compared (now (a .name))) = omega arith in (
       omega (arith, c .group-for .ensures .1),
       rw (c .group-for .ensures .0, c .group-for .ensures .1)
-          (ap (λ (n : ℕ). findFrom (a .limits) (now (a .c)) (compared (now (a .name))) n s (groupAt true (now (a .c)) (groupIn (a .limits) true (now (a .c)) (compared (now (a .name)))))) z),
+          (ap (λ (n : ℕ). findFrom (a .limits) (now (a .c)) (compared (now (a .name))) n s (groupAt Listing (now (a .c)) (groupIn (a .limits) Listing (now (a .c)) (compared (now (a .name)))))) z),
     )
 
 listing-at-requires : tie.Need-listing-at-requires Inv-loop μ-loop
@@ -101,7 +101,7 @@ returns c =
     let l = e .before .before .before .before in
     let a = l .before .before .before .before .args in
     ended _ _ Nothing _ (c .spent .ensures ∙ spent-told (l .before) (l .loop .left))
-    (sym (find-bad (a .limits) (now (a .c)) (compared (now (a .name))) (spentIn (a .limits) true (now (a .c)) (compared (now (a .name))) (l .loop .left)) (l .loop .left) (l .loop .at) (e .before .before .before .loop-test .taken) (read-bad e)) ∙ l .loop .inv .1)
+    (sym (find-bad (a .limits) (now (a .c)) (compared (now (a .name))) (spentIn (a .limits) Listing (now (a .c)) (compared (now (a .name))) (l .loop .left)) (l .loop .left) (l .loop .at) (e .before .before .before .loop-test .taken) (read-bad e)) ∙ l .loop .inv .1)
 
 sub-left : tie.Need-sub-left Inv-loop μ-loop
 sub-left c = omega arith
@@ -135,8 +135,8 @@ returns-2 c =
     let a = l .before .before .before .before .args in
     let t = m .before .before .before .loop-test .taken in
     ended _ _ (Nothing) _ (c .spent2 .ensures ∙ spent-told (l .before) (l .loop .left - 1))
-    (sym (find-above (a .limits) (now (a .c)) (compared (now (a .name))) (spentIn (a .limits) true (now (a .c)) (compared (now (a .name))) (l .loop .left)) (l .loop .left) (l .loop .at) (m .e .given .0 .0) t (read-is m) _
-    (spent-next (a .limits) true (now (a .c)) (compared (now (a .name))) (l .loop .left) t (l .loop .inv .0)) (sym (compared-is o) ∙ c .before .enum-told2 .given .1)) ∙ l .loop .inv .1)
+    (sym (find-above (a .limits) (now (a .c)) (compared (now (a .name))) (spentIn (a .limits) Listing (now (a .c)) (compared (now (a .name))) (l .loop .left)) (l .loop .left) (l .loop .at) (m .e .given .0 .0) t (read-is m) _
+    (spent-next (a .limits) Listing (now (a .c)) (compared (now (a .name))) (l .loop .left) t (l .loop .inv .0)) (sym (compared-is o) ∙ c .before .enum-told2 .given .1)) ∙ l .loop .inv .1)
 
 enum-told-3 : tie.Need-enum-told-3 Inv-loop μ-loop
 enum-told-3 c = search needs
@@ -152,8 +152,8 @@ returns-3 c =
     let a = l .before .before .before .before .args in
     let t = m .before .before .before .loop-test .taken in
     ended _ _ (At (m .e .given .0 .0)) _ (c .spent3 .ensures ∙ spent-told (l .before) (l .loop .left - 1))
-    (sym (find-here (a .limits) (now (a .c)) (compared (now (a .name))) (spentIn (a .limits) true (now (a .c)) (compared (now (a .name))) (l .loop .left)) (l .loop .left) (l .loop .at) (m .e .given .0 .0) t (read-is m) _
-    (spent-next (a .limits) true (now (a .c)) (compared (now (a .name))) (l .loop .left) t (l .loop .inv .0)) (sym (compared-is o) ∙ c .before .enum-told3 .given .1)) ∙ l .loop .inv .1)
+    (sym (find-here (a .limits) (now (a .c)) (compared (now (a .name))) (spentIn (a .limits) Listing (now (a .c)) (compared (now (a .name))) (l .loop .left)) (l .loop .left) (l .loop .at) (m .e .given .0 .0) t (read-is m) _
+    (spent-next (a .limits) Listing (now (a .c)) (compared (now (a .name))) (l .loop .left) t (l .loop .inv .0)) (sym (compared-is o) ∙ c .before .enum-told3 .given .1)) ∙ l .loop .inv .1)
 
 enum-told-4 : tie.Need-enum-told-4 Inv-loop μ-loop
 enum-told-4 c = search needs
@@ -169,8 +169,8 @@ loop-again c =
     let a = l .before .before .before .before .args in
     let t = m .before .before .before .loop-test .taken in (
       omega (arith, l .loop .inv .0),
-      sym (find-on (a .limits) (now (a .c)) (compared (now (a .name))) (spentIn (a .limits) true (now (a .c)) (compared (now (a .name))) (l .loop .left)) (l .loop .left) (l .loop .at) (m .e .given .0 .0) t (read-is m) _
-          (spent-next (a .limits) true (now (a .c)) (compared (now (a .name))) (l .loop .left) t (l .loop .inv .0)) (sym (compared-is o) ∙ c .enum-told4 .given .1)) ∙ l .loop .inv .1,
+      sym (find-on (a .limits) (now (a .c)) (compared (now (a .name))) (spentIn (a .limits) Listing (now (a .c)) (compared (now (a .name))) (l .loop .left)) (l .loop .left) (l .loop .at) (m .e .given .0 .0) t (read-is m) _
+          (spent-next (a .limits) Listing (now (a .c)) (compared (now (a .name))) (l .loop .left) t (l .loop .inv .0)) (sym (compared-is o) ∙ c .enum-told4 .given .1)) ∙ l .loop .inv .1,
     )
 
 spent-requires-4 : tie.Need-spent-requires-4 Inv-loop μ-loop
@@ -182,7 +182,7 @@ returns-4 c =
     let l = w .before in
     let a = l .before .before .before .before .args in
     ended _ _ Nothing _ (c .spent4 .ensures ∙ spent-told (l .before) (l .loop .left))
-    (sym (find-end (a .limits) (now (a .c)) (compared (now (a .name))) (spentIn (a .limits) true (now (a .c)) (compared (now (a .name))) (l .loop .left)) (l .loop .left) (l .loop .at) (w .loop-test .left)) ∙ l .loop .inv .1)
+    (sym (find-end (a .limits) (now (a .c)) (compared (now (a .name))) (spentIn (a .limits) Listing (now (a .c)) (compared (now (a .name))) (l .loop .left)) (l .loop .left) (l .loop .at) (w .loop-test .left)) ∙ l .loop .inv .1)
 
 pub find-spec : {M : Type 1} → statement M
 find-spec =

@@ -15,26 +15,26 @@ use Rattle.seek.proofs.Steps.{counted}
 use Rattle.seek.proofs.group_for.Statement.{statement}
 use Rattle.seek.proofs.group_for.Tie as tie
 
-le16-requires : tie.Need-le16-requires
-le16-requires c κs = search needs
+entry-count-requires : tie.Need-entry-count-requires
+entry-count-requires c κs = search needs
 
 cast-total : tie.Need-cast-total
 cast-total c = search needs
 
-head-requires : tie.Need-head-requires
-head-requires c κs = search needs
+first-place-requires : tie.Need-first-place-requires
+first-place-requires c κs = search needs
 
 returns : tie.Need-returns
 unfolding groupAt
 returns c =
     let t = c .before in
     let a = t .before .before .before .before .args in
-    let z = group-none (a .limits) (a .listing) (now (a .c)) (compared (now (a .name))) (omega (arith, t .before .le16 .ensures)) in
-    rw (z .0, z .1) (c .head .ensures, omega (arith, t .before .le16 .ensures), refl)
+    let z = group-none (a .limits) (a .kind) (now (a .c)) (compared (now (a .name))) (omega (arith, t .before .entry-count .ensures)) in
+    rw (z .0, z .1) (c .first-place .ensures, omega (arith, t .before .entry-count .ensures), refl)
 
 -- the chunk has its count
 has-count : (c : tie.Else1) → 4094 < length (now (c .before .before .before .before .args .c))
-has-count c = counted (now (c .before .before .before .before .args .c)) (omega (arith, c .before .le16 .ensures, c .if1 .left))
+has-count c = counted (now (c .before .before .before .before .args .c)) (omega (arith, c .before .entry-count .ensures, c .if1 .left))
 
 spacing-requires : tie.Need-spacing-requires
 spacing-requires c κs = search needs
@@ -47,13 +47,13 @@ div-group-of c = search needs
 
 group-of-requires : tie.Need-group-of-requires
 group-of-requires c κs =
-    (omega (arith, div-le-self (c .before .before .le16 .result - 1) (c .spacing .result)), has-count (c .before))
+    (omega (arith, div-le-self (c .before .before .entry-count .result - 1) (c .spacing .result)), has-count (c .before))
 
 group-at-requires : tie.Need-group-at-requires
 group-at-requires c κs = has-count (c .before .before)
 
 -- the group is one of the chunk's
-inside : (c : tie.After-group-of) → c .group-of .result .group * c .before .spacing .result ≤ c .before .before .before .le16 .result - 1
+inside : (c : tie.After-group-of) → c .group-of .result .group * c .before .spacing .result ≤ c .before .before .before .entry-count .result - 1
 inside c = le-div-iff-mul-le {k = c .before .spacing .result} (omega (arith, c .before .spacing .ensures)) .0 (c .group-of .ensures .2)
 
 -- it begins at its place, has so many entries, and took so many names
@@ -62,10 +62,10 @@ chosen : (c : tie.After-group-at)
     let n = o .before .spacing .result in
     let t = o .before .before .before in
     let a = t .before .before .before .args in
-    let g = groupIn (a .limits) (a .listing) (now (a .c)) (compared (now (a .name))) in
-    (c .group-at .result ≡ groupAt (a .listing) (now (a .c)) g)
-    × (min n (t .le16 .result - o .group-of .result .group * n) ≡ sizeIn (a .limits) (now (a .c)) g)
-    × (o .group-of .result .count ≡ halvingsIn (a .limits) (a .listing) (now (a .c)) (compared (now (a .name))))
+    let g = groupIn (a .limits) (a .kind) (now (a .c)) (compared (now (a .name))) in
+    (c .group-at .result ≡ groupAt (a .kind) (now (a .c)) g)
+    × (min n (t .entry-count .result - o .group-of .result .group * n) ≡ sizeIn (a .limits) (now (a .c)) g)
+    × (o .group-of .result .count ≡ halvingsIn (a .limits) (a .kind) (now (a .c)) (compared (now (a .name))))
 unfolding groupIn
 chosen c =
     let o = c .before in
@@ -73,18 +73,18 @@ chosen c =
     let t = o .before .before .before in
     let a = t .before .before .before .args in
     let d = a .limits .density in
-    let above = groupAbove (a .listing) (now (a .c)) (compared (now (a .name))) in
+    let above = groupAbove (a .kind) (now (a .c)) (compared (now (a .name))) in
     let h = o .group-of .result .group in
-    let total : t .le16 .result ≡ countOf (now (a .c)) = t .le16 .ensures in
-    let q : (t .le16 .result - 1) / p .result ≡ (countOf (now (a .c)) - 1) / spacingOf d =
+    let total : t .entry-count .result ≡ countOf (now (a .c)) = t .entry-count .ensures in
+    let q : (t .entry-count .result - 1) / p .result ≡ (countOf (now (a .c)) - 1) / spacingOf d =
     rw (p .ensures, total) (capped d .words (countOf (now (a .c)) - 1) (omega arith)) in
-    let g : h ≡ groupIn (a .limits) (a .listing) (now (a .c)) (compared (now (a .name))) =
+    let g : h ≡ groupIn (a .limits) (a .kind) (now (a .c)) (compared (now (a .name))) =
     o .group-of .ensures .0 ∙ ap (λ (i : ℕ). halved above i 0 i) q in
     let m : h * p .result ≡ h * spacingOf d =
-    ap (λ (i : ℕ). h * i) (p .ensures) ∙ capped-group d h (t .le16 .result - 1) (omega arith) (rw (← p .ensures) (o .group-of .ensures .2)) in
-    let s : min (p .result) (t .le16 .result - h * p .result) ≡ min (spacingOf d) (t .le16 .result - h * p .result) =
-    ap (λ (i : ℕ). min i (t .le16 .result - h * p .result)) (p .ensures) ∙ capped-size d (t .le16 .result - h * p .result) (omega arith) in (
-      c .group-at .ensures ∙ ap (groupAt (a .listing) (now (a .c))) g,
+    ap (λ (i : ℕ). h * i) (p .ensures) ∙ capped-group d h (t .entry-count .result - 1) (omega arith) (rw (← p .ensures) (o .group-of .ensures .2)) in
+    let s : min (p .result) (t .entry-count .result - h * p .result) ≡ min (spacingOf d) (t .entry-count .result - h * p .result) =
+    ap (λ (i : ℕ). min i (t .entry-count .result - h * p .result)) (p .ensures) ∙ capped-size d (t .entry-count .result - h * p .result) (omega arith) in (
+      c .group-at .ensures ∙ ap (groupAt (a .kind) (now (a .c))) g,
       s ∙ rw (m, total, g) refl,
       o .group-of .ensures .1 ∙ ap (λ (i : ℕ). halvings above i 0 i) q,
     )
@@ -105,9 +105,9 @@ pub group-for-spec : {M : Type 1} → statement M
 group-for-spec =
     tie.close
     (tie.spec
-    le16-requires
+    entry-count-requires
     cast-total
-    head-requires
+    first-place-requires
     returns
     spacing-requires
     sub-group-of

@@ -13,16 +13,16 @@ use Rattle.seek.proofs.group_of.Tie as tie
 
 -- the groups lo to hi are left, and halving them i times more is enough
 abbrev Inv-loop : tie.InvT-loop
-Inv-loop c listing name last lo₀ hi₀ turns₀ lo hi turns =
+Inv-loop c kind name last lo₀ hi₀ turns₀ lo hi turns =
     (i : ℕ)
     × (hi - lo ≤ i)
     × (lo ≤ hi)
     × (hi ≤ last)
-    × (halved (groupAbove listing c (compared name)) i lo hi ≡ halved (groupAbove listing c (compared name)) last 0 last)
-    × (turns + halvings (groupAbove listing c (compared name)) i lo hi ≡ halvings (groupAbove listing c (compared name)) last 0 last)
+    × (halved (groupAbove kind c (compared name)) i lo hi ≡ halved (groupAbove kind c (compared name)) last 0 last)
+    × (turns + halvings (groupAbove kind c (compared name)) i lo hi ≡ halvings (groupAbove kind c (compared name)) last 0 last)
 
 abbrev μ-loop : tie.MeasureT-loop
-μ-loop c listing name last lo₀ hi₀ turns₀ lo hi turns = hi - lo
+μ-loop c kind name last lo₀ hi₀ turns₀ lo hi turns = hi - lo
 
 loop-holds : tie.Need-loop-holds Inv-loop μ-loop
 loop-holds c = (c .before .before .args .last, omega arith, omega arith, omega arith, refl, omega arith)
@@ -40,7 +40,7 @@ add-turns : tie.Need-add-turns Inv-loop μ-loop
 add-turns c =
     let l = c .before .loop in
     let a = c .before .before .before .before .args in
-    let f = halvings-fuel (groupAbove (a .listing) (now (a .c)) (compared (now (a .name)))) (a .last) 0 (a .last) in
+    let f = halvings-fuel (groupAbove (a .kind) (now (a .c)) (compared (now (a .name)))) (a .last) 0 (a .last) in
     omega (arith, f)
 
 stands-to-requires : tie.Need-stands-to-requires Inv-loop μ-loop
@@ -60,7 +60,7 @@ loop-again c =
     let t = c .before .before .before in
     let l = t .before .loop in
     let a = t .before .before .before .before .args in
-    let above = groupAbove (a .listing) (now (a .c)) (compared (now (a .name))) in
+    let above = groupAbove (a .kind) (now (a .c)) (compared (now (a .name))) in
     let m = sym (c .before .before .stands-to .ensures) ∙ ap isLess (c .enum-told .given .1) in
     let q = halvings-lower above (l .inv .0) (l .lo) (l .hi) (t .loop-test .taken) (l .inv .1) m in (
       l .inv .0 - 1,
@@ -82,7 +82,7 @@ loop-again-2 c =
     let t = c .before .before .before in
     let l = t .before .loop in
     let a = t .before .before .before .before .args in
-    let above = groupAbove (a .listing) (now (a .c)) (compared (now (a .name))) in
+    let above = groupAbove (a .kind) (now (a .c)) (compared (now (a .name))) in
     let m = sym (c .before .before .stands-to .ensures) ∙ ap isLess (c .enum-told2 .given .1) in
     let q = halvings-upper above (l .inv .0) (l .lo) (l .hi) (t .loop-test .taken) (l .inv .1) m in (
       l .inv .0 - 1,
@@ -104,7 +104,7 @@ loop-again-3 c =
     let t = c .before .before .before in
     let l = t .before .loop in
     let a = t .before .before .before .before .args in
-    let above = groupAbove (a .listing) (now (a .c)) (compared (now (a .name))) in
+    let above = groupAbove (a .kind) (now (a .c)) (compared (now (a .name))) in
     let m = sym (c .before .before .stands-to .ensures) ∙ ap isLess (c .enum-told3 .given .1) in
     let q = halvings-upper above (l .inv .0) (l .lo) (l .hi) (t .loop-test .taken) (l .inv .1) m in (
       l .inv .0 - 1,
@@ -119,7 +119,7 @@ returns : tie.Need-returns Inv-loop μ-loop
 returns c =
     let l = c .before .loop in
     let a = c .before .before .before .before .args in
-    let above = groupAbove (a .listing) (now (a .c)) (compared (now (a .name))) in
+    let above = groupAbove (a .kind) (now (a .c)) (compared (now (a .name))) in
     let q = halvings-one above (l .inv .0) (l .lo) (l .hi) (c .loop-test .left) in
     (sym (halved-one above (l .inv .0) (l .lo) (l .hi) (c .loop-test .left)) ∙ l .inv .4, omega (arith, q), omega arith)
 

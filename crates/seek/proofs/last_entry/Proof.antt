@@ -6,8 +6,8 @@ use Rattle.seek.specs.Seek.{nthIn}
 use Rattle.seek.proofs.last_entry.Statement.{statement}
 use Rattle.seek.proofs.last_entry.Tie as tie
 
-le16-requires : tie.Need-le16-requires
-le16-requires c κs = search needs
+entry-count-requires : tie.Need-entry-count-requires
+entry-count-requires c κs = search needs
 
 cast-total : tie.Need-cast-total
 cast-total c = search needs
@@ -15,15 +15,15 @@ cast-total c = search needs
 returns : tie.Need-returns
 unfolding nthIn
 returns c =
-    let r = c .before .le16 .result in
-    rw (← c .before .le16 .ensures, le-ltb (r - 1) r (omega arith))
+    let r = c .before .entry-count .result in
+    rw (← c .before .entry-count .ensures, le-ltb (r - 1) r (omega arith))
 
 nth-entry-requires : tie.Need-nth-entry-requires
 nth-entry-requires c κs = search needs
 
 returns-2 : tie.Need-returns-2
-returns-2 c = rw (← c .before .before .le16 .ensures) (c .nth-entry .ensures)
+returns-2 c = rw (← c .before .before .entry-count .ensures) (c .nth-entry .ensures)
 
 pub last-entry-spec : {M : Type 1} → statement M
 last-entry-spec =
-    tie.close (tie.spec le16-requires cast-total returns nth-entry-requires returns-2)
+    tie.close (tie.spec entry-count-requires cast-total returns nth-entry-requires returns-2)

@@ -8,8 +8,8 @@ use Rattle.seek.proofs.Steps.{counted}
 use Rattle.seek.proofs.nth_entry.Statement.{statement}
 use Rattle.seek.proofs.nth_entry.Tie as tie
 
-le16-requires : tie.Need-le16-requires
-le16-requires c κs = search needs
+entry-count-requires : tie.Need-entry-count-requires
+entry-count-requires c κs = search needs
 
 cast-total : tie.Need-cast-total
 cast-total c = search needs
@@ -18,7 +18,7 @@ returns : tie.Need-returns
 unfolding nthIn
 returns c =
     let a = c .before .before .before .args in
-    rw (← c .before .le16 .ensures, le-ltb (a .i) (c .before .le16 .result) (omega arith))
+    rw (← c .before .entry-count .ensures, le-ltb (a .i) (c .before .entry-count .result) (omega arith))
 
 spacing-requires : tie.Need-spacing-requires
 spacing-requires c κs = search needs
@@ -32,7 +32,7 @@ div-group-at c = search needs
 group-at-requires : tie.Need-group-at-requires
 group-at-requires c κs =
     let t = c .before in
-    counted (now (t .before .before .before .args .c)) (omega (arith, t .before .le16 .ensures, t .if1 .left))
+    counted (now (t .before .before .before .args .c)) (omega (arith, t .before .entry-count .ensures, t .if1 .left))
 
 entry-behind-requires : tie.Need-entry-behind-requires
 entry-behind-requires c κs = search needs
@@ -44,14 +44,14 @@ returns-2 c =
     let t = c .before .before .before in
     let a = t .before .before .before .args in
     let same = capped (a .limits .density) in
-    rw (← t .before .le16 .ensures, lt-ltb (a .i) (t .before .le16 .result) (omega arith), ← same .words (a .i) (omega arith), ← same .rests (a .i) (omega arith), ← n .ensures, ← c .before .group-at .ensures)
+    rw (← t .before .entry-count .ensures, lt-ltb (a .i) (t .before .entry-count .result) (omega arith), ← same .words (a .i) (omega arith), ← same .rests (a .i) (omega arith), ← n .ensures, ← c .before .group-at .ensures)
     (c .entry-behind .ensures)
 
 pub nth-entry-spec : {M : Type 1} → statement M
 nth-entry-spec =
     tie.close
     (tie.spec
-    le16-requires
+    entry-count-requires
     cast-total
     returns
     spacing-requires

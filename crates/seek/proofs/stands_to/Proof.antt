@@ -34,7 +34,7 @@ returns c =
 
 -- the name that was read
 read-is : (c : tie.After-known-told) → let g = c .before .before .before .before in let a = g .before .before .before .args in
-    nameAt (now (a .c)) (groupAt (a .listing) (now (a .c)) (a .g)) ≡ Value (c .before .n .given .0 .0) (c .before .n .given .0 .1 .0)
+    nameAt (now (a .c)) (groupAt (a .kind) (now (a .c)) (a .g)) ≡ Value (c .before .n .given .0 .0) (c .before .n .given .0 .1 .0)
 read-is c =
     let r = c .before .before .before in
     rw (← r .before .group-at .ensures) (sym (r .name-at .ensures) ∙ c .before .n .given .1)

@@ -1,10 +1,11 @@
 use borrow.Author.Needs.{needs}
-use mathlib.Core.Path.{_≡_, sym, ap₂, _∙_}
+use mathlib.Core.Path.{_≡_, sym, ap, ap₂, _∙_}
 use mathlib.Core.Bool.{false}
 use Prim.Native.Nat.{ℕ, _-_}
 use native.Mathlib.Omega.{arith}
 use denote.Ref.{now}
-use Rattle.chunk.specs.Chunk.{countOf}
+use Rattle.entries.specs.declared.Kind.{Kind}
+use Rattle.chunk.specs.Chunk.{headOf, countOf}
 use Rattle.chunk.specs.declared.Chunk.the-variants.{Listing}
 use Rattle.book.specs.Book.{chunkBytes, metChunk}
 use Rattle.book.proofs.Meeting.{met-listing, met-index, met-refused}
@@ -23,9 +24,9 @@ met-is : (c : tie.After-next) → let a = c .before .before .before .before .bef
     metChunk (now (a .file)) (a .book) (a .w .next) ≡ Listing (c .next .given .0 .0) (c .next .given .0 .1 .0)
 met-is c = sym (c .before .before .met .ensures) ∙ c .next .given .1
 
-count-is : (c : tie.After-le16) → let a = c .before .before .before .before .before .before .before .before .before .before .before .before .before .args in
-    c .le16 .result ≡ countOf (chunkBytes (now (a .file)) (a .book) (a .w .next))
-count-is c = rw (← c .before .chunk-bytes .ensures) (c .le16 .ensures)
+count-is : (c : tie.After-entry-count) → let a = c .before .before .before .before .before .before .before .before .before .before .before .before .before .before .args in
+    c .entry-count .result ≡ countOf (chunkBytes (now (a .file)) (a .book) (a .w .next))
+count-is c = rw (← c .before .chunk-bytes .ensures) (c .entry-count .ensures)
 
 returns : tie.Need-returns
 returns c = let a = c .before .before .before .args in sym (enter-inside (now (a .file)) (a .book) (a .w) (c .if1 .taken))
@@ -75,11 +76,14 @@ returns-5 c =
     sym (enter-barred (now (a .file)) (a .book) (a .w) (e .before .before .if1 .left) (on e)
     (met-refused (now (a .file)) (a .book) (a .w .next) _ (sym (m .met .ensures) ∙ c .enum-told2 .given .1) .1))
 
+first-place-requires : tie.Need-first-place-requires
+first-place-requires c κs = search needs
+
 chunk-bytes-requires : tie.Need-chunk-bytes-requires
 chunk-bytes-requires c κs = search needs
 
-le16-requires : tie.Need-le16-requires
-le16-requires c κs = search needs
+entry-count-requires : tie.Need-entry-count-requires
+entry-count-requires c κs = search needs
 
 cast-left : tie.Need-cast-left
 cast-left c = search needs
@@ -87,12 +91,13 @@ cast-left c = search needs
 returns-6 : tie.Need-returns-6
 returns-6 c =
     let l = c .before in
-    let n = l .before .before .before in
+    let n = l .before .before .before .before in
     let m = n .before .before in
     let e = m .before .before .before in
     let a = e .before .before .before .before .before .args in
     let d = met-listing (now (a .file)) (a .book) (a .w .next) _ _ (met-is n) in
-    ap₂ (λ (l k : ℕ). Inside (record { chunk = a .w .next; at = 20; left = l; next = k; more = a .w .more - 1 }))
+    ap (λ (i : ℕ). Inside (record { chunk = a .w .next; at = i; left = l .entry-count .result; next = n .next .given .0 .1 .0; more = a .w .more - 1 })) (l .before .before .first-place .ensures)
+    ∙ ap₂ (λ (l k : ℕ). Inside (record { chunk = a .w .next; at = headOf Kind.Listing; left = l; next = k; more = a .w .more - 1 }))
     (count-is l ∙ sym (entries-length (now (a .file)) (a .book) (a .w .next) (d .kind))) (sym (d .next-is))
     ∙ sym (enter-chunk (now (a .file)) (a .book) (a .w) (e .before .before .if1 .left) (on e) (omega arith) (d .below))
 
@@ -111,7 +116,8 @@ enter-spec =
     returns-4
     enum-told-2
     returns-5
+    first-place-requires
     chunk-bytes-requires
-    le16-requires
+    entry-count-requires
     cast-left
     returns-6)

@@ -1,8 +1,8 @@
 use borrow.Author.Needs.{needs}
 use mathlib.Core.Path.{_≡_, sym, ap, _∙_}
-use mathlib.Core.Bool.{true}
 use denote.Ref.{now}
 use Rattle.entries.specs.Entry.{itemAt}
+use Rattle.entries.specs.declared.Kind.the-variants.{Listing}
 use Rattle.book.specs.Book.{limitsOf, chunkBytes}
 use Rattle.walk.specs.declared.Coming.the-variants.{Refused}
 use Rattle.walk.proofs.Entering.{here-entry, here-none}
@@ -11,7 +11,7 @@ use Rattle.walk.proofs.entry_here.Tie as tie
 
 -- what is read is what stands in the chunk of the book
 item-is : (c : tie.After-listing-at) → let a = c .before .before .before .before .args in
-    c .listing-at .result ≡ itemAt (limitsOf (now (a .file)) (a .book)) true (chunkBytes (now (a .file)) (a .book) (a .w .chunk)) (a .w .at)
+    c .listing-at .result ≡ itemAt (limitsOf (now (a .file)) (a .book)) Listing (chunkBytes (now (a .file)) (a .book) (a .w .chunk)) (a .w .at)
 unfolding itemAt
 item-is c = rw (← c .before .before .limits .ensures, ← c .before .chunk-bytes .ensures) (c .listing-at .ensures)
 

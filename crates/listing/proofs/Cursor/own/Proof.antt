@@ -3,6 +3,7 @@ use mathlib.Core.Path.{_≡_, sym, ap, _∙_}
 use mathlib.Core.Bool.{true}
 use denote.Ref.{now}
 use Rattle.fields.proofs.Tests.{held, failed}
+use Rattle.entries.specs.declared.Kind.the-variants.{Listing}
 use Rattle.seek.specs.Seek.{nthIn}
 use Rattle.book.specs.Book.{limitsOf, chunkBytes, bookFits}
 use Rattle.listing.specs.declared.Owned.the-variants.{At}
@@ -20,7 +21,7 @@ linked-is c = met-listing _ _ _ _ _ (sym (c .before .before .met .ensures) ∙ c
 
 -- the search that the code makes is the one in the chunk of the book
 sought-is : (c : tie.After-nth-entry) → let a = c .before .before .before .before .before .before .before .before .before .args in
-    c .nth-entry .result ≡ nthIn (limitsOf (now (a .file)) (a .book)) true (chunkBytes (now (a .file)) (a .book) (a .self .chunk)) (a .self .entry)
+    c .nth-entry .result ≡ nthIn (limitsOf (now (a .file)) (a .book)) Listing (chunkBytes (now (a .file)) (a .book) (a .self .chunk)) (a .self .entry)
 sought-is c = rw (← c .before .limits .ensures, ← c .before .before .chunk-bytes .ensures) (c .nth-entry .ensures)
 
 fits-requires : tie.Need-fits-requires

@@ -1,9 +1,10 @@
 use borrow.Author.Needs.{needs}
 use borrow.Author.Tests.{eq-eqb, ne-eqb, not-true, not-false}
-use mathlib.Core.Path.{_≡_, sym, ap, _∙_}
+use mathlib.Core.Path.{_≡_, sym, _∙_}
 use mathlib.Core.Bool.{cond}
+use mathlib.Core.List.{[]}
 use native.Mathlib.Omega.{arith}
-use Prim.Native.Nat.{_+_, _-_, _*_, _/_, _≤_, _<_}
+use Prim.Native.Nat.{_+_, _-_, _*_, _≤_, _<_}
 use lib.ListN.{length}
 use lib.Dec.{eqb}
 use denote.Ref.{now}
@@ -11,27 +12,29 @@ use Rattle.fields.specs.Part.{part}
 use Rattle.entries.specs.Entry.{itemAt}
 use Rattle.entries.specs.declared.Item.the-variants.{Good}
 use Rattle.entries.proofs.Laws.{Inside, item-inside}
-use Rattle.chunk.specs.Chunk.{headOf, entriesAt, judged, faultOf}
+use Rattle.chunk.specs.Chunk.{headOf, entriesAt, made, judged}
+use Rattle.chunk.specs.Answer.{chunkOf}
+use Rattle.chunk.specs.declared.Chunk.the-variants.{Refused}
 use Rattle.chunk.proofs.Frame.{head-small}
 use Rattle.chunk.proofs.Quick.{mark-word, mark-right, div-below}
 use Rattle.chunk.proofs.Turn.{outcome, at-start, turn, turn-bad, at-end}
-use Rattle.chunk.proofs.fault_in.Statement.{statement}
-use Rattle.chunk.proofs.fault_in.Tie as tie
-use Rattle.chunk.proofs.fault_in.Reads as reads
-use Rattle.chunk.proofs.fault_in.Lts as lts
+use Rattle.chunk.proofs.check_entries.Statement.{statement}
+use Rattle.chunk.proofs.check_entries.Tie as tie
+use Rattle.chunk.proofs.check_entries.Reads as reads
+use Rattle.chunk.proofs.check_entries.Lts as lts
 
 -- entry word * n + past is next, and `left` entries are left
 abbrev Inv-loop : tie.InvT-loop
-Inv-loop c limits listing n total end first at₀ from₀ len₀ rises₀ quick₀ m₀ left₀ at from len rises quick m left =
+Inv-loop c limits kind n total end first at₀ from₀ len₀ rises₀ quick₀ m₀ left₀ at from len rises quick m left =
     (from + len ≤ length c) × (m .past < n) × (m .word * n + m .past + left ≡ total)
-    × (outcome n listing c rises quick (m .word * n + m .past) (part c from len) (entriesAt limits listing c end left at)
-    ≡ faultOf (judged n listing c (entriesAt limits listing c end total (headOf listing))))
+    × (outcome n kind c rises quick (m .word * n + m .past) (part c from len) (entriesAt limits kind c end left at)
+    ≡ chunkOf (judged n kind c (entriesAt limits kind c end total (headOf kind))))
 
 abbrev μ-loop : tie.MeasureT-loop
-μ-loop c limits listing n total end first at₀ from₀ len₀ rises₀ quick₀ m₀ left₀ at from len rises quick m left = left
+μ-loop c limits kind n total end first at₀ from₀ len₀ rises₀ quick₀ m₀ left₀ at from len rises quick m left = left
 
 read-is : (c : tie.After-e Inv-loop μ-loop) → let l = c .before .before .before .before in let a = l .before .before .before .args in
-    itemAt (a .limits) (a .listing) (now (a .c)) (l .loop .at) ≡ Good (c .e .given .0 .0)
+    itemAt (a .limits) (a .kind) (now (a .c)) (l .loop .at) ≡ Good (c .e .given .0 .0)
 read-is c = sym (c .before .before .item-at .ensures) ∙ c .e .given .1
 
 read-inside : (c : tie.After-e Inv-loop μ-loop) → let l = c .before .before .before .before in let a = l .before .before .before .args in
@@ -47,8 +50,8 @@ word-small c =
     let d = div-below (l .m .word * a .n + l .m .past) (a .total - 1) (a .n) (p .0) (omega arith) in
     omega (arith, mark-word (a .n) (l .m .word) (l .m .past) (l .inv .1))
 
-head-requires : tie.Need-head-requires Inv-loop μ-loop
-head-requires c κs = search needs
+first-place-requires : tie.Need-first-place-requires Inv-loop μ-loop
+first-place-requires c κs = search needs
 
 loop-holds : tie.Need-loop-holds Inv-loop μ-loop
 loop-holds c =
@@ -57,7 +60,7 @@ loop-holds c =
       search needs,
       omega arith,
       omega arith,
-      rw (z, c .head .ensures) (at-start (a .n) (a .listing) (now (a .c)) (entriesAt (a .limits) (a .listing) (now (a .c)) (a .end) (a .total) (headOf (a .listing)))),
+      rw (z, c .first-place .ensures) (at-start (a .n) (a .kind) (now (a .c)) (entriesAt (a .limits) (a .kind) (now (a .c)) (a .end) (a .total) (headOf (a .kind)))),
     )
 
 item-at-requires : tie.Need-item-at-requires Inv-loop μ-loop
@@ -74,7 +77,7 @@ returns c =
     let t = c .before .before in
     let l = t .before .before .loop in
     let a = t .before .before .before .before .before .args in
-    turn-bad (a .n) (a .listing) (now (a .c)) (a .limits) (a .end) (l .rises) (l .quick) _ (l .left) (l .at) (part (now (a .c)) (l .from) (l .len))
+    turn-bad (a .n) (a .kind) (now (a .c)) (a .limits) (a .end) (l .rises) (l .quick) _ (l .left) (l .at) (part (now (a .c)) (l .from) (l .len))
     (t .before .loop-test .taken) (sym (t .item-at .ensures) ∙ c .enum-told .given .1)
     ∙ l .inv .3
 
@@ -84,7 +87,7 @@ still-rises-requires c κs = (search needs, read-inside (c .before) .name)
 still-quick-requires : tie.Need-still-quick-requires Inv-loop μ-loop
 still-quick-requires c κs =
     let t = c .before .before .before .before in
-    (word-small (t .before), rw (t .before .before .before .head .ensures) (head-small (t .before .before .before .before .before .args .listing)))
+    rw (t .before .before .before .first-place .ensures) (head-small (t .before .before .before .before .before .args .kind))
 
 next-mark-requires : tie.Need-next-mark-requires Inv-loop μ-loop
 next-mark-requires c κs =
@@ -113,21 +116,21 @@ loop-again c =
         c .next-mark .ensures .1,
         c .before .before .still-rises .ensures,
         c .before .still-quick .ensures,
-        t .before .before .before .head .ensures,
-        ← mark-right (a .n) w p (l .inv .1) (now (a .c)) (headOf (a .listing)) (place .at),
+        t .before .before .before .first-place .ensures,
+        ← mark-right (a .n) w p (l .inv .1) (now (a .c)) (headOf (a .kind)) (place .at),
       )
-          (sym (turn (a .n) (a .listing) (now (a .c)) (a .limits) (a .end) (l .rises) (l .quick) (w * a .n + p) (l .left) (l .at) (part (now (a .c)) (l .from) (l .len)) place (t .before .loop-test .taken) (read-is e))
+          (sym (turn (a .n) (a .kind) (now (a .c)) (a .limits) (a .end) (l .rises) (l .quick) (w * a .n + p) (l .left) (l .at) (part (now (a .c)) (l .from) (l .len)) place (t .before .loop-test .taken) (read-is e))
           ∙ l .inv .3),
     )
 
 -- behind the last entry
 ended : (c : tie.After-loop Inv-loop μ-loop) → let l = c .before .loop in let a = c .before .before .before .before .args in
-    cond (eqb (l .at) (a .end)) (cond (l .rises) (cond (l .quick) 0 11) 12) 10
-    ≡ faultOf (judged (a .n) (a .listing) (now (a .c)) (entriesAt (a .limits) (a .listing) (now (a .c)) (a .end) (a .total) (headOf (a .listing))))
+    cond (eqb (l .at) (a .end)) (cond (l .rises) (cond (l .quick) (chunkOf (made (a .kind) (now (a .c)) [])) (Refused 11)) (Refused 12)) (Refused 10)
+    ≡ chunkOf (judged (a .n) (a .kind) (now (a .c)) (entriesAt (a .limits) (a .kind) (now (a .c)) (a .end) (a .total) (headOf (a .kind))))
 ended c =
     let l = c .before .loop in
     let a = c .before .before .before .before .args in
-    sym (at-end (a .n) (a .listing) (now (a .c)) (a .limits) (a .end) (l .rises) (l .quick) _ (l .left) (l .at) (part (now (a .c)) (l .from) (l .len)) (c .loop-test .left))
+    sym (at-end (a .n) (a .kind) (now (a .c)) (a .limits) (a .end) (l .rises) (l .quick) _ (l .left) (l .at) (part (now (a .c)) (l .from) (l .len)) (c .loop-test .left))
     ∙ l .inv .3
 
 returns-2 : tie.Need-returns-2 Inv-loop μ-loop
@@ -141,18 +144,23 @@ returns-4 c =
     let e = c .before .before .before in
     simp (eq-eqb _ _ (c .before .before .if1 .left), not-false (e .before .loop .rises) (c .before .if2 .left), not-true (e .before .loop .quick) (c .if3 .taken)) at (ended e)
 
+good-chunk-requires : tie.Need-good-chunk-requires Inv-loop μ-loop
+good-chunk-requires c κs = search needs
+
 returns-5 : tie.Need-returns-5 Inv-loop μ-loop
 returns-5 c =
-    let e = c .before .before .before in
-    simp (eq-eqb _ _ (c .before .before .if1 .left), not-false (e .before .loop .rises) (c .before .if2 .left), not-false (e .before .loop .quick) (c .if3 .left)) at (ended e)
+    let t = c .before in
+    let e = t .before .before .before in
+    c .good-chunk .ensures
+    ∙ simp (eq-eqb _ _ (t .before .before .if1 .left), not-false (e .before .loop .rises) (t .before .if2 .left), not-false (e .before .loop .quick) (t .if3 .left)) at (ended e)
 
-pub fault-in-spec : {M : Type 1} → statement M
-fault-in-spec =
+pub check-entries-spec : {M : Type 1} → statement M
+check-entries-spec =
     tie.close
     (tie.spec
     Inv-loop
     μ-loop
-    head-requires
+    first-place-requires
     loop-holds
     item-at-requires
     enum-known-e
@@ -167,4 +175,5 @@ fault-in-spec =
     returns-2
     returns-3
     returns-4
+    good-chunk-requires
     returns-5)
