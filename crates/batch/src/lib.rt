@@ -8,10 +8,10 @@ ghost use Rattle.fields.specs.Le.{bytes};
 ghost use Rattle.batch.specs.Batch.{askedAt, namesIn, resultOf, batchOf, answersIn};
 ghost use Rattle.batch.specs.Step.{countedAs, resultsBy, batchIn, answersBy};
 use book::Refusal;
-use opening::Opened;
 use encint::Number;
 use header::Record;
 use lookup::Reply;
+use opening::Opened;
 
 // What the call answers.
 pub enum Batched {

@@ -8,8 +8,8 @@ ghost use Rattle.diff.specs.Steps.{nextAfter};
 use compare::Cursor;
 use compare::Shown;
 use compare::Step;
-use opening::Opened;
 use header::Record;
+use opening::Opened;
 
 // Where the comparison goes on behind a step: at a cursor, or nowhere.
 enum Next {

@@ -22,8 +22,6 @@ use book::Refusal;
 use book::Report;
 use compare::Shown;
 use compare::Totals;
-use opening::Opened;
-use writer::Written;
 use header::Record;
 use listing::Cursor;
 use listing::Owned;
@@ -31,7 +29,9 @@ use listing::Page;
 use listing::Step;
 use lookup::Answer;
 use lookup::Reply;
+use opening::Opened;
 use walk::Walk;
+use writer::Written;
 
 // The numbers of a record; `HODS_RECORD` in include/hodsplinter.h is how many there are.
 type Numbers = [u64; 11];

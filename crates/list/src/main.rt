@@ -1,7 +1,7 @@
 // Lists a book. It is read from standard input, at most 60,000 bytes of it; for each entry, in the order of the listing, a line with the entry's own
 // bytes in lower-case hexadecimal. A refusal is a line too: ee, its number in one byte, its chunk in four, highest first.
-use opening::Opened;
 use header::Record;
+use opening::Opened;
 use walk::Coming;
 use walk::Walk;
 

@@ -16,6 +16,8 @@ use Rattle.entries.specs.declared.Place.{Place}
 use Rattle.entries.specs.declared.Item.{Item}
 use Rattle.entries.specs.declared.Item.the-variants.{Good, Bad}
 use Rattle.entries.proofs.Laws.{name-next, listing-apart, listing-inside}
+use Rattle.entries.specs.declared.Kind.{Kind}
+use Rattle.entries.specs.declared.Kind.the-variants.{Listing, Index}
 use Rattle.source.specs.Source.{childAt, itemFrom, takenOf, run, endOf, rowsFrom}
 use Rattle.source.proofs.All.{All, none, more}
 
@@ -105,10 +107,10 @@ child-row s starts c e q =
       size = refl;
     })
 
-pub row-of : (content : ℕ) (s starts : List ℕ) (k : Bool) (at : ℕ) (e : Place) → itemFrom content s starts k at ≡ Good e → Row s e
+pub row-of : (content : ℕ) (s starts : List ℕ) (k : Kind) (at : ℕ) (e : Place) → itemFrom content s starts k at ≡ Good e → Row s e
 unfolding itemFrom
-row-of content s starts true at e q = given-row content s at e q .row
-row-of content s starts false at e q = child-row s starts at e q .row
+row-of content s starts Listing at e q = given-row content s at e q .row
+row-of content s starts Index at e q = child-row s starts at e q .row
 
 -- ---- a step, where `left` more may be taken
 
@@ -178,5 +180,5 @@ module _ (item : ℕ → Item) where
       (λ q. subst (All P) (sym (run-none (suc left) at q)) none)
       (λ e q. let z : e ∷ run item left (e .next) ≡ run item (suc left) at = rw q in subst (All P) z (more (f at e q) (run-all P f left (e .next))))
 
-pub rows-all : (content : ℕ) (s starts : List ℕ) (k : Bool) (left at : ℕ) → All (Row s) (rowsFrom content s starts k left at)
+pub rows-all : (content : ℕ) (s starts : List ℕ) (k : Kind) (left at : ℕ) → All (Row s) (rowsFrom content s starts k left at)
 rows-all content s starts k left at = run-all (itemFrom content s starts k) (Row s) (row-of content s starts k) left at

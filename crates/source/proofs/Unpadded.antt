@@ -22,6 +22,7 @@ use Rattle.entries.specs.declared.Place.{Place}
 use Rattle.entries.specs.declared.Item.the-variants.{Good}
 use Rattle.entries.proofs.Laws.{listing-inside}
 use Rattle.entries.proofs.Padded.{entry-stands}
+use Rattle.entries.specs.declared.Kind.the-variants.{Listing}
 use Rattle.source.specs.Stored.{Stored, storedOf, entryBytes, unpadded, allUnpadded, rises}
 use Rattle.source.specs.Source.{run, endOf}
 use Rattle.source.specs.Input.{placesOf, given, inputRight}
@@ -32,20 +33,20 @@ length-five a b c d e = omega (arith, length-append a (b ++ (c ++ (d ++ e))), le
 
 -- no byte 80 in front of any number
 none-padded : (k₀ k₁ k₂ k₃ : ℕ) (e : Stored) → k₀ ≡ 0 → k₁ ≡ 0 → k₂ ≡ 0 → k₃ ≡ 0
-    → padded k₀ (length (e .name)) ++ (e .name ++ (padded k₁ (e .section) ++ (padded k₂ (e .offset) ++ padded k₃ (e .size)))) ≡ entryBytes true e
+    → padded k₀ (length (e .name)) ++ (e .name ++ (padded k₁ (e .section) ++ (padded k₂ (e .offset) ++ padded k₃ (e .size)))) ≡ entryBytes Listing e
 unfolding entryBytes
 none-padded k₀ k₁ k₂ k₃ e h₀ h₁ h₂ h₃ = rw (h₀, h₁, h₂, h₃)
 
 -- bytes that are an entry, as many as are written for it, are those that are written for it
-none-ahead : (bytes : List ℕ) (e : Stored) → PaddedEntry bytes (e .name) (e .section) (e .offset) (e .size) → length bytes ≡ length (entryBytes true e)
-    → bytes ≡ entryBytes true e
+none-ahead : (bytes : List ℕ) (e : Stored) → PaddedEntry bytes (e .name) (e .section) (e .offset) (e .size) → length bytes ≡ length (entryBytes Listing e)
+    → bytes ≡ entryBytes Listing e
 unfolding entryBytes
 none-ahead bytes e p n =
     let k₀ : ℕ = p .ahead in
     let k₁ : ℕ = p .ahead-section in
     let k₂ : ℕ = p .ahead-offset in
     let k₃ : ℕ = p .ahead-size in
-    let long : length bytes ≡ k₀ + k₁ + k₂ + k₃ + length (entryBytes true e) =
+    let long : length bytes ≡ k₀ + k₁ + k₂ + k₃ + length (entryBytes Listing e) =
     omega (
       arith,
       ap length (p .stands),
@@ -68,9 +69,9 @@ module _ (s : List ℕ) (bytes : (i : ℕ) → getD s i 0 < 256) (content : ℕ)
         let z = i .ends in
         length-part s (e .at) (e .next - e .at) (omega arith)
 
-    pub unpadded-bytes : (unpadded s e ≡ true) ↔ (part s (e .at) (e .next - e .at) ≡ entryBytes true (storedOf s e))
+    pub unpadded-bytes : (unpadded s e ≡ true) ↔ (part s (e .at) (e .next - e .at) ≡ entryBytes Listing (storedOf s e))
     unpadded-bytes =
-        let x : List ℕ = entryBytes true (storedOf s e) in
+        let x : List ℕ = entryBytes Listing (storedOf s e) in
         let m : e .at < e .next = omega (arith, listing-inside content s at e q .moves, listing-inside content s at e q .same) in (
           (λ u.
               let n : e .next ≡ e .at + length x = eqb-true (e .next) (e .at + length x) u in
@@ -79,7 +80,7 @@ module _ (s : List ℕ) (bytes : (i : ℕ) → getD s i 0 < 256) (content : ℕ)
         )
 
     -- the entry and what stands behind it
-    entry-ahead : unpadded s e ≡ true → drop at s ≡ entryBytes true (storedOf s e) ++ drop (e .next) s
+    entry-ahead : unpadded s e ≡ true → drop at s ≡ entryBytes Listing (storedOf s e) ++ drop (e .next) s
     entry-ahead u =
         let i = listing-inside content s at e q in
         let h : e .at ≡ at = i .same in
@@ -93,7 +94,7 @@ module _ (s : List ℕ) (bytes : (i : ℕ) → getD s i 0 < 256) (content : ℕ)
 
   -- the entries from a place on, where they end with the input
   run-bytes : (left at : ℕ) → endOf at (run (listingAt content s) left at) ≡ length s → allUnpadded s (run (listingAt content s) left at) ≡ true
-      → drop at s ≡ flatMap (entryBytes true) (map (storedOf s) (run (listingAt content s) left at))
+      → drop at s ≡ flatMap (entryBytes Listing) (map (storedOf s) (run (listingAt content s) left at))
   unfolding run endOf allUnpadded flatMap
   run-bytes zero at h u = none-behind at h
   run-bytes (suc left) at h u =
@@ -104,10 +105,10 @@ module _ (s : List ℕ) (bytes : (i : ℕ) → getD s i 0 < 256) (content : ℕ)
       let v : (unpadded s e && allUnpadded s es) ≡ true = rw q at u in
       let k : endOf (e .next) es ≡ length s = rw q at h in
       let w = and-both (unpadded s e) (allUnpadded s es) v in
-      rw q (entry-ahead at e q (w .0) ∙ ap (λ (b : List ℕ). entryBytes true (storedOf s e) ++ b) (run-bytes left (e .next) k (w .1))))
+      rw q (entry-ahead at e q (w .0) ∙ ap (λ (b : List ℕ). entryBytes Listing (storedOf s e) ++ b) (run-bytes left (e .next) k (w .1))))
 
   -- an input that the writer takes
-  pub input-bytes : inputRight content s ≡ true → s ≡ flatMap (entryBytes true) (given content s)
+  pub input-bytes : inputRight content s ≡ true → s ≡ flatMap (entryBytes Listing) (given content s)
   unfolding inputRight given
   input-bytes h =
       let es = placesOf content s in
