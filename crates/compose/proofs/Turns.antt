@@ -1,14 +1,14 @@
 -- The loop that writes the entries of a chunk: what holds where some are written (`Putting`), and what a turn finds and leaves.
 -- Assumes nothing.
 use mathlib.Core.Path.{_≡_, refl, sym, ap, ap₂, _∙_}
-use mathlib.Core.Bool.{Bool}
 use mathlib.Core.List.{List, [], _∷_, _++_, map, flatMap}
 use Prim.Native.Nat.{ℕ, zero, suc, _+_, _-_, _*_, _/_, _≤_, _<_}
 use native.Mathlib.Omega.{arith}
 use lib.ListN.{length, take, drop, replicate, length-append, length-drop, length-map, length-replicate, replicate-append-replicate}
 use lib.Seq.{sets}
 use Rattle.entries.specs.declared.Place.{Place}
-use Rattle.chunk.specs.Chunk.{headOf}
+use Rattle.entries.specs.declared.Kind.{Kind}
+use Rattle.chunk.specs.Chunk.{headOf, countPlace, quickPlace}
 use Rattle.chunk.proofs.Frame.{head-small}
 use Rattle.entries.specs.Stored.{Stored, storedOf, entryBytes}
 use Rattle.source.specs.Source.{itemFrom, rowsFrom}
@@ -42,16 +42,16 @@ others-of (suc i) [] e rest d = absurd (let z : _≡_ {A = ℕ} 0 1 = cc in omeg
 others-of (suc i) (x ∷ xs) e rest d = let n : suc i + 1 ≡ suc (i + 1) = omega arith in ap (λ (j : ℕ). drop j (x ∷ xs)) n ∙ others-of i xs e rest d
 
 -- a chunk of zeros
-zeros : (m h : ℕ) → m ≡ 4096 → h ≤ 20 → replicate {A = ℕ} m 0 ≡ replicate h 0 ++ (replicate (4094 - h) 0 ++ replicate 2 0)
+zeros : (m h : ℕ) → m ≡ 4096 → h ≤ 20 → replicate {A = ℕ} m 0 ≡ replicate h 0 ++ (replicate (countPlace - h) 0 ++ replicate 2 0)
 zeros m h whole small =
-    let e : m ≡ h + (4094 - h + 2) = omega arith in
+    let e : m ≡ h + (countPlace - h + 2) = omega arith in
     ap (λ (j : ℕ). replicate {A = ℕ} j 0) e
-    ∙ sym (replicate-append-replicate h (4094 - h + 2) 0)
-    ∙ ap (λ (l : List ℕ). replicate h 0 ++ l) (sym (replicate-append-replicate (4094 - h) 2 0))
+    ∙ sym (replicate-append-replicate h (countPlace - h + 2) 0)
+    ∙ ap (λ (l : List ℕ). replicate h 0 ++ l) (sym (replicate-append-replicate (countPlace - h) 2 0))
 
 -- ---- the loop
 
-module _ (content : ℕ) (s starts : List ℕ) (k : Bool) (all from n : ℕ) where
+module _ (content : ℕ) (s starts : List ℕ) (k : Kind) (all from n : ℕ) where
   abbrev rows : ℕ → ℕ → List Place
   rows left at = rowsFrom content s starts k left at
 
@@ -119,7 +119,7 @@ module _ (content : ℕ) (s starts : List ℕ) (k : Bool) (all from n : ℕ) whe
       pub record Turn : Type 0 where
         pub fits : headOf k + f .bytes + rowSize k e ≤ 4096
         pub near : f .bytes < 4096
-        pub words : 2 * (i / n) ≤ 4094
+        pub words : 2 * (i / n) ≤ countPlace
 
       pub putting-turn : Turn
       putting-turn =
@@ -131,7 +131,7 @@ module _ (content : ℕ) (s starts : List ℕ) (k : Bool) (all from n : ℕ) whe
           }
 
       pub putting-more : (first : ℕ) (o₁ o₂ : List ℕ) → first ≡ headOf k → o₁ ≡ sets out (first + f .bytes) (entryBytes k (storedOf s e))
-          → o₂ ≡ sets o₁ (4094 - 2 * (i / n)) (markBytes n i (f .bytes)) → Putting o₂ (record { count = i + 1; bytes = m; at = e .next; left = f .left - 1 })
+          → o₂ ≡ sets o₁ (quickPlace (i / n)) (markBytes n i (f .bytes)) → Putting o₂ (record { count = i + 1; bytes = m; at = e .next; left = f .left - 1 })
       putting-more first o₁ o₂ h w₁ w₂ =
           record {
             few = omega (arith, p .few, t .more);
@@ -141,8 +141,8 @@ module _ (content : ℕ) (s starts : List ℕ) (k : Bool) (all from n : ℕ) whe
             whole = t .turn ∙ p .whole;
             is =
                 w₂
-                ∙ ap (λ (o : List ℕ). sets o (4094 - 2 * (i / n)) (markBytes n i (f .bytes))) w₁
-                ∙ ap₂ (λ (o : List ℕ) (a : ℕ). sets (sets o a (entryBytes k (storedOf s e))) (4094 - 2 * (i / n)) (markBytes n i (f .bytes))) (p .is) (ap₂ _+_ h (p .size))
-                ∙ ap (λ (b : ℕ). sets (sets (made i) (entriesEnd k (take i group)) (entryBytes k (storedOf s e))) (4094 - 2 * (i / n)) (markBytes n i b)) (p .size)
+                ∙ ap (λ (o : List ℕ). sets o (quickPlace (i / n)) (markBytes n i (f .bytes))) w₁
+                ∙ ap₂ (λ (o : List ℕ) (a : ℕ). sets (sets o a (entryBytes k (storedOf s e))) (quickPlace (i / n)) (markBytes n i (f .bytes))) (p .is) (ap₂ _+_ h (p .size))
+                ∙ ap (λ (b : ℕ). sets (sets (made i) (entriesEnd k (take i group)) (entryBytes k (storedOf s e))) (quickPlace (i / n)) (markBytes n i b)) (p .size)
                 ∙ partly-turn k n (replicate (headOf k) 0) (replicate 2 0) group (length-replicate (headOf k) 0) i (storedOf s e) (map (storedOf s) (rows (f .left - 1) (e .next))) next-entry (omega (arith, t .room, next-size));
           }

@@ -2,7 +2,7 @@
 -- a count they are a chunk (`chunk-written`).
 -- Assumes nothing.
 use mathlib.Core.Path.{_≡_, sym, ap, ap₂, subst, _∙_}
-use mathlib.Core.Bool.{Bool, true}
+use mathlib.Core.Bool.{true}
 use mathlib.Core.List.{List, [], _++_, append-assoc, append-nil}
 use Prim.Native.Nat.{ℕ, _+_, _-_, _*_, _≤_, _<_}
 use native.Mathlib.Omega.{arith}
@@ -13,7 +13,8 @@ use borrow.Author.Tests.{le-leb}
 use Rattle.fields.specs.Le.{bytes}
 use Rattle.fields.proofs.Le.{length-bytes}
 use Rattle.entries.specs.declared.Place.{Place}
-use Rattle.chunk.specs.Chunk.{headOf, quickCount}
+use Rattle.entries.specs.declared.Kind.{Kind}
+use Rattle.chunk.specs.Chunk.{headOf, quickCount, countPlace}
 use Rattle.chunk.proofs.Frame.{head-small}
 use Rattle.entries.specs.Stored.{Stored, storedOf}
 use Rattle.source.specs.Source.{rowsFrom}
@@ -33,12 +34,12 @@ use Rattle.compose.proofs.Zeros.{into-front}
 
 -- ---- header and count take the place of zeros
 
-module _ (k : Bool) (n : ℕ) (es : List Stored) (room : entriesEnd k es + (2 * quickCount n (length es) + 2) ≤ 4096) where
+module _ (k : Kind) (n : ℕ) (es : List Stored) (room : entriesEnd k es + (2 * quickCount n (length es) + 2) ≤ 4096) where
   -- what stands between them
   body : List ℕ
-  body = runBytes k es ++ (replicate (4094 - 2 * quickCount n (length es) - entriesEnd k es) 0 ++ quickWords k n es (quickCount n (length es)))
+  body = runBytes k es ++ (replicate (countPlace - 2 * quickCount n (length es) - entriesEnd k es) 0 ++ quickWords k n es (quickCount n (length es)))
 
-  length-body : headOf k + length body ≡ 4094
+  length-body : headOf k + length body ≡ countPlace
   unfolding body
   length-body = simp (length-append, length-replicate, length-quick k n es (quickCount n (length es))) (omega arith)
 
@@ -46,16 +47,16 @@ module _ (k : Bool) (n : ℕ) (es : List Stored) (room : entriesEnd k es + (2 * 
   unfolding between body
   between-body hd lt = simp append-assoc
 
-  in-place : (hd lt : List ℕ) → length hd ≡ headOf k → length lt ≡ 2 → sets (sets (entriesOnly k n es) 0 hd) 4094 lt ≡ between k n hd lt es
+  in-place : (hd lt : List ℕ) → length hd ≡ headOf k → length lt ≡ 2 → sets (sets (entriesOnly k n es) 0 hd) countPlace lt ≡ between k n hd lt es
   in-place hd lt lh ll =
       let z : List ℕ = replicate 2 0 in
       let o : headOf k - length hd ≡ 0 = omega arith in
       let q : 2 - length lt ≡ 0 = omega arith in
-      let p : 4094 ≡ length (hd ++ body) = omega (arith, length-body, length-append hd body) in
-      ap (λ (l : List ℕ). sets (sets l 0 hd) 4094 lt) (between-body (replicate (headOf k) 0) z)
-      ∙ ap (λ (l : List ℕ). sets l 4094 lt) (into-front [] (headOf k) (body ++ z) hd (omega arith))
-      ∙ ap (λ (m : ℕ). sets (hd ++ (replicate m 0 ++ (body ++ z))) 4094 lt) o
-      ∙ ap (λ (l : List ℕ). sets l 4094 lt) (sym (append-assoc hd body z))
+      let p : countPlace ≡ length (hd ++ body) = omega (arith, length-body, length-append hd body) in
+      ap (λ (l : List ℕ). sets (sets l 0 hd) countPlace lt) (between-body (replicate (headOf k) 0) z)
+      ∙ ap (λ (l : List ℕ). sets l countPlace lt) (into-front [] (headOf k) (body ++ z) hd (omega arith))
+      ∙ ap (λ (m : ℕ). sets (hd ++ (replicate m 0 ++ (body ++ z))) countPlace lt) o
+      ∙ ap (λ (l : List ℕ). sets l countPlace lt) (sym (append-assoc hd body z))
       ∙ ap (λ (m : ℕ). sets ((hd ++ body) ++ z) m lt) p
       ∙ into-front (hd ++ body) 2 [] lt (omega arith)
       ∙ ap (λ (m : ℕ). (hd ++ body) ++ (lt ++ (replicate m 0 ++ []))) q
@@ -64,14 +65,14 @@ module _ (k : Bool) (n : ℕ) (es : List Stored) (room : entriesEnd k es + (2 * 
       ∙ sym (between-body hd lt)
 
   framed : (prev next : ℕ)
-      → sets (sets (entriesOnly k n es) 0 (chunkHead k (4096 - entriesEnd k es) prev next)) 4094 (bytes 2 (length es)) ≡ newChunk k n prev next es
+      → sets (sets (entriesOnly k n es) 0 (chunkHead k (4096 - entriesEnd k es) prev next)) countPlace (bytes 2 (length es)) ≡ newChunk k n prev next es
   unfolding newChunk tailBytes between
   framed prev next =
       in-place (chunkHead k (4096 - entriesEnd k es) prev next) (bytes 2 (length es)) (length-head k (4096 - entriesEnd k es) prev next) (length-bytes 2 (length es))
 
 -- ---- what a chunk takes
 
-module _ (content : ℕ) (s starts : List ℕ) (k : Bool) (left at n : ℕ) (f : Extent) (is : f ≡ extentFrom k n 0 0 at left (rowsFrom content s starts k left at)) where
+module _ (content : ℕ) (s starts : List ℕ) (k : Kind) (left at n : ℕ) (f : Extent) (is : f ≡ extentFrom k n 0 0 at left (rowsFrom content s starts k left at)) where
   abbrev rows : List Place
   rows = rowsFrom content s starts k left at
 
@@ -119,26 +120,26 @@ module _ (content : ℕ) (s starts : List ℕ) (k : Bool) (left at n : ℕ) (f :
 
   -- header and count on the entries that were taken
   pub chunk-written : (prev next : ℕ) (out o : List ℕ) → out ≡ entriesOnly k n (groupFrom content s starts k left at (f .count))
-      → o ≡ sets (sets out 0 (chunkHead k (4096 - (headOf k + f .bytes)) prev next)) 4094 (bytes 2 (f .count))
+      → o ≡ sets (sets out 0 (chunkHead k (4096 - (headOf k + f .bytes)) prev next)) countPlace (bytes 2 (f .count))
       → o ≡ newChunk k n prev next (groupFrom content s starts k left at (f .count))
   chunk-written prev next out o is₁ w =
       let g = groupFrom content s starts k left at (f .count) in
       let t = extent-told in
       w
-      ∙ ap (λ (x : List ℕ). sets (sets x 0 (chunkHead k (4096 - (headOf k + f .bytes)) prev next)) 4094 (bytes 2 (f .count))) is₁
-      ∙ ap₂ (λ (b c : ℕ). sets (sets (entriesOnly k n g) 0 (chunkHead k (4096 - (headOf k + b)) prev next)) 4094 (bytes 2 c)) (t .bytes) (sym group-length)
+      ∙ ap (λ (x : List ℕ). sets (sets x 0 (chunkHead k (4096 - (headOf k + f .bytes)) prev next)) countPlace (bytes 2 (f .count))) is₁
+      ∙ ap₂ (λ (b c : ℕ). sets (sets (entriesOnly k n g) 0 (chunkHead k (4096 - (headOf k + b)) prev next)) countPlace (bytes 2 c)) (t .bytes) (sym group-length)
       ∙ framed k n g group-room prev next
 
 -- ---- the length of a chunk
 
-pub length-chunk : (k : Bool) (n prev next : ℕ) (es : List Stored) → entriesEnd k es + (2 * quickCount n (length es) + 2) ≤ 4096 → length (newChunk k n prev next es) ≡ 4096
+pub length-chunk : (k : Kind) (n prev next : ℕ) (es : List Stored) → entriesEnd k es + (2 * quickCount n (length es) + 2) ≤ 4096 → length (newChunk k n prev next es) ≡ 4096
 unfolding newChunk tailBytes
 length-chunk k n prev next es h =
     let q = quickCount n (length es) in
     let tail = 4096 - entriesEnd k es in
     simp (length-append, length-replicate, length-bytes, length-quick k n es q, length-head k tail prev next) (omega arith)
 
-pub length-extent : (content : ℕ) (s starts : List ℕ) (k : Bool) (left at n : ℕ) (f : Extent) → f ≡ extentFrom k n 0 0 at left (rowsFrom content s starts k left at)
+pub length-extent : (content : ℕ) (s starts : List ℕ) (k : Kind) (left at n : ℕ) (f : Extent) → f ≡ extentFrom k n 0 0 at left (rowsFrom content s starts k left at)
     → (prev next : ℕ) → length (newChunk k n prev next (groupFrom content s starts k left at (f .count))) ≡ 4096
 length-extent content s starts k left at n f is prev next =
     length-chunk k n prev next (groupFrom content s starts k left at (f .count)) (group-room content s starts k left at n f is)

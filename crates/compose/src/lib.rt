@@ -10,12 +10,14 @@ ghost use Rattle.fields.specs.Le.{bytes};
 ghost use Rattle.fields.specs.Part.{inside, part};
 ghost use Rattle.fields.specs.Put.{put};
 ghost use Rattle.encint.specs.Encint.{encoded};
-ghost use Rattle.chunk.specs.Chunk.{headOf};
+ghost use Rattle.entries.specs.declared.Kind.the-variants.{Listing};
+ghost use Rattle.chunk.specs.Chunk.{headOf, countPlace, quickPlace};
 ghost use Rattle.entries.specs.Stored.{storedOf, entryBytes};
 ghost use Rattle.source.specs.Source.{rowsFrom};
 ghost use Rattle.pack.specs.Fill.{rowSize, extentFrom};
 ghost use Rattle.compose.specs.NewChunk.{wordBytes, chunkHead, newChunk};
 ghost use Rattle.compose.specs.Steps.{markBytes, groupFrom, entriesOnly};
+use entries::Kind;
 use entries::Place;
 use pack::Extent;
 use pack::Fit;
@@ -92,22 +94,23 @@ fn put_numbers(out: &mut [u8], at: usize, section: u64, offset: u64, size: u64)
 }
 
 // Writes an entry from its numbers.
-fn put_entry(out: &mut [u8], at: usize, input: &[u8], listing: bool, e: Place)
-    requires { ⌜ (at + rowSize listing e ≤ length (now out)) × (e .start + e .len ≤ length (now input)) ⌝ }
-    ensures { λ _. ⌜ now (out .exit) ≡ sets (now (out .entry)) at (entryBytes listing (storedOf (now (input .entry)) e)) ⌝ }
+fn put_entry(out: &mut [u8], at: usize, input: &[u8], kind: Kind, e: Place)
+    requires { ⌜ (at + rowSize kind e ≤ length (now out)) × (e .start + e .len ≤ length (now input)) ⌝ }
+    ensures { λ _. ⌜ now (out .exit) ≡ sets (now (out .entry)) at (entryBytes kind (storedOf (now (input .entry)) e)) ⌝ }
 {
     let from = put_name(out, at, input, e.start, e.len);
-    if listing {
-        put_numbers(out, from, e.section, e.offset, e.size);
-        return;
+    match kind {
+        Kind::Listing => put_numbers(out, from, e.section, e.offset, e.size),
+        Kind::Index => {
+            encint::write(out, from, e.child);
+        }
     }
-    encint::write(out, from, e.child);
 }
 
 // Writes the quick word of entry i, which stands `offset` bytes behind the first, if it has one.
 fn mark(out: &mut [u8], i: usize, n: usize, offset: usize)
-    requires { ⌜ (length (now out) ≡ 4096) × (2 * (i / n) ≤ 4094) × (offset < 65536) ⌝ }
-    ensures { λ _. ⌜ now (out .exit) ≡ sets (now (out .entry)) (4094 - 2 * (i / n)) (markBytes n i offset) ⌝ }
+    requires { ⌜ (length (now out) ≡ 4096) × (2 * (i / n) ≤ countPlace) × (offset < 65536) ⌝ }
+    ensures { λ _. ⌜ now (out .exit) ≡ sets (now (out .entry)) (quickPlace (i / n)) (markBytes n i offset) ⌝ }
 {
     if i == 0 {
         return;
@@ -118,7 +121,7 @@ fn mark(out: &mut [u8], i: usize, n: usize, offset: usize)
     if i % n != 0 {
         return;
     }
-    fields::put16(out, 4094 - 2 * (i / n), offset as u16);
+    fields::put16(out, chunk::quick_place(i / n), offset as u16);
 }
 
 // Writes the entries from a cursor on, as many as fit, with their quick words into a chunk of zeros. Returns what it took.
@@ -131,9 +134,10 @@ fn put_entries(
     n: usize,
 ) -> Extent
     requires { ⌜ (length (now out) ≡ 4096) × (now out ≡ replicate (length (now out)) 0) ⌝ }
-    ensures { λ r. ⌜ (r ≡ extentFrom (from .listing) n 0 0 (from .at) (from .left) (rowsFrom content (now (input .entry)) (now (starts .entry)) (from .listing) (from .left) (from .at))) × (now (out .exit) ≡ entriesOnly (from .listing) n (groupFrom content (now (input .entry)) (now (starts .entry)) (from .listing) (from .left) (from .at) (r .count))) ⌝ }
+    ensures { λ r. ⌜ (r ≡ extentFrom (from .kind) n 0 0 (from .at) (from .left) (rowsFrom content (now (input .entry)) (now (starts .entry)) (from .kind) (from .left) (from .at))) × (now (out .exit) ≡ entriesOnly (from .kind) n (groupFrom content (now (input .entry)) (now (starts .entry)) (from .kind) (from .left) (from .at) (r .count))) ⌝ }
 {
-    let first = chunk::head(from.listing);
+    let kind = from.kind;
+    let first = chunk::first_place(kind);
     let mut f = Extent {
         count: 0,
         bytes: 0,
@@ -141,10 +145,10 @@ fn put_entries(
         left: from.left,
     };
     loop {
-        let Fit::Entry(e, bytes) = pack::next_fit(input, starts, content, from.listing, n, f) else {
+        let Fit::Entry(e, bytes) = pack::next_fit(input, starts, content, kind, n, f) else {
             return f;
         };
-        put_entry(out, first + f.bytes, input, from.listing, e);
+        put_entry(out, first + f.bytes, input, kind, e);
         mark(out, f.count, n, f.bytes);
         f = Extent {
             count: f.count + 1,
@@ -156,32 +160,35 @@ fn put_entries(
 }
 
 // Writes the header of a chunk.
-fn put_head(out: &mut [u8], listing: bool, tail: u32, prev: u32, next: u32)
-    requires { ⌜ 20 ≤ length (now out) ⌝ }
-    ensures { λ _. ⌜ now (out .exit) ≡ sets (now (out .entry)) 0 (chunkHead listing tail prev next) ⌝ }
+fn put_head(out: &mut [u8], kind: Kind, tail: u32, prev: u32, next: u32)
+    requires { ⌜ headOf Listing ≤ length (now out) ⌝ }
+    ensures { λ _. ⌜ now (out .exit) ≡ sets (now (out .entry)) 0 (chunkHead kind tail prev next) ⌝ }
 {
-    if listing {
-        let words = [0x4C47_4D50u32, tail, 0, prev, next];
-        put_words(out, 0, &words);
-        return;
+    match kind {
+        Kind::Listing => {
+            let words = [chunk::LISTING_TAG, tail, 0, prev, next];
+            put_words(out, 0, &words);
+        }
+        Kind::Index => {
+            let words = [chunk::INDEX_TAG, tail];
+            put_words(out, 0, &words);
+        }
     }
-    let words = [0x4947_4D50u32, tail];
-    put_words(out, 0, &words);
 }
 
 // Writes the header and the count of a chunk of `count` entries of `used` bytes.
-fn put_frame(out: &mut [u8], listing: bool, used: usize, count: usize, prev: u32, next: u32)
-    requires { ⌜ (length (now out) ≡ 4096) × (headOf listing + used ≤ 4096) × (count < 65536) ⌝ }
-    ensures { λ _. ⌜ now (out .exit) ≡ sets (sets (now (out .entry)) 0 (chunkHead listing (4096 - (headOf listing + used)) prev next)) 4094 (bytes 2 count) ⌝ }
+fn put_frame(out: &mut [u8], kind: Kind, used: usize, count: usize, prev: u32, next: u32)
+    requires { ⌜ (length (now out) ≡ 4096) × (headOf kind + used ≤ 4096) × (count < 65536) ⌝ }
+    ensures { λ _. ⌜ now (out .exit) ≡ sets (sets (now (out .entry)) 0 (chunkHead kind (4096 - (headOf kind + used)) prev next)) countPlace (bytes 2 count) ⌝ }
 {
     put_head(
         out,
-        listing,
-        (4096 - (chunk::head(listing) + used)) as u32,
+        kind,
+        (4096 - (chunk::first_place(kind) + used)) as u32,
         prev,
         next,
     );
-    fields::put16(out, 4094, count as u16);
+    fields::put16(out, chunk::COUNT_PLACE, count as u16);
 }
 
 // Writes the chunk whose first entry is at a cursor, with as many entries as fit; `prev` and `next` are for a listing chunk. Writes nothing
@@ -196,14 +203,15 @@ pub fn write_chunk(
     prev: u32,
     next: u32,
 ) -> Extent
-    ensures answer { λ r. ⌜ r ≡ extentFrom (from .listing) n 0 0 (from .at) (from .left) (rowsFrom content (now (input .entry)) (now (starts .entry)) (from .listing) (from .left) (from .at)) ⌝ }
-    ensures written { λ r. ⌜ now (out .exit) ≡ cond (eqb (length (now (out .entry))) 4096) (newChunk (from .listing) n prev next (map (storedOf (now (input .entry))) (take (r .count) (rowsFrom content (now (input .entry)) (now (starts .entry)) (from .listing) (from .left) (from .at))))) (now (out .entry)) ⌝ }
+    ensures answer { λ r. ⌜ r ≡ extentFrom (from .kind) n 0 0 (from .at) (from .left) (rowsFrom content (now (input .entry)) (now (starts .entry)) (from .kind) (from .left) (from .at)) ⌝ }
+    ensures written { λ r. ⌜ now (out .exit) ≡ cond (eqb (length (now (out .entry))) 4096) (newChunk (from .kind) n prev next (map (storedOf (now (input .entry))) (take (r .count) (rowsFrom content (now (input .entry)) (now (starts .entry)) (from .kind) (from .left) (from .at))))) (now (out .entry)) ⌝ }
 {
     if out.len() != 4096 {
         return pack::fill(input, starts, content, from, n);
     }
     clear(out);
     let f = put_entries(out, input, starts, content, from, n);
-    put_frame(out, from.listing, f.bytes, f.count, prev, next);
+    let kind = from.kind;
+    put_frame(out, kind, f.bytes, f.count, prev, next);
     f
 }

@@ -10,6 +10,7 @@ use lib.ListN.{length, length-map}
 use lib.Dec.{ltb, leb, eqb}
 use borrow.Author.Tests.{leb-true, ltb-true}
 use Rattle.fields.proofs.Tests.{and-both}
+use Rattle.entries.specs.declared.Kind.the-variants.{Listing}
 use Rattle.chunk.specs.Chunk.{spacingOf}
 use Rattle.entries.specs.Rising.{rising}
 use Rattle.entries.specs.Stored.{Stored, storedOf, storedName}
@@ -31,10 +32,10 @@ pub record Cut (density content : ℕ) (es : List Stored) (gs : List (List Store
   pub order : rising storedName [] es ≡ true
   pub kept : All (Kept content) es
   pub whole : flatten gs ≡ es
-  pub fit : All (Fit (entrySize true) (fits true (spacingOf density))) gs
+  pub fit : All (Fit (entrySize Listing) (fits Listing (spacingOf density))) gs
 
 pub takes-told : (density content : ℕ) (s : List ℕ) → takes density content s ≡ true
-    → Cut density content (given content s) (level (spacingOf density) true (given content s))
+    → Cut density content (given content s) (level (spacingOf density) Listing (given content s))
 unfolding takes inputRight given
 takes-told density content s h =
     let n = spacingOf density in
@@ -50,8 +51,8 @@ takes-told density content s h =
       some = omega (arith, length-map (placesOf content s) (storedOf s), ltb-true 0 (length (placesOf content s)) (c .0));
       order = and-both (allUnpadded s (placesOf content s)) (rising storedName [] es) (d .1) .1;
       kept = k;
-      whole = groups-flat (entrySize true) (fits true n) es;
-      fit = level-fit n true es (all-weaken (λ (e : Stored) (k : Kept content e). k .short) k);
+      whole = groups-flat (entrySize Listing) (fits Listing n) es;
+      fit = level-fit n Listing es (all-weaken (λ (e : Stored) (k : Kept content e). k .short) k);
     }
 
 -- ---- its chunks
@@ -64,7 +65,7 @@ module _ (density content : ℕ) (es : List Stored) (gs : List (List Stored)) (c
   cut-ordered =
       record {
         order = ap (rising storedName []) (c .whole) ∙ c .order;
-        some = all-weaken (λ (g : List Stored) (f : Fit (entrySize true) (fits true (spacingOf density)) g). f .some) (c .fit);
+        some = all-weaken (λ (g : List Stored) (f : Fit (entrySize Listing) (fits Listing (spacingOf density)) g). f .some) (c .fit);
         named = all-weaken (λ (g : List Stored) (ks : All (Kept content) g). all-weaken (λ (e : Stored) (k : Kept content e). k .some) ks) cut-kept;
         short = all-weaken (λ (g : List Stored) (ks : All (Kept content) g). all-weaken (λ (e : Stored) (k : Kept content e). k .short) ks) cut-kept;
       }

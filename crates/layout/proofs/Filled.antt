@@ -1,11 +1,12 @@
 -- Chunks whose entries fit are as long as a chunk, and have room for what stands in them.
 -- Assumes nothing.
 use mathlib.Core.Path.{_≡_, ap, _∙_}
-use mathlib.Core.Bool.{Bool, true, false}
 use mathlib.Core.List.{List, [], _∷_, flatten}
 use Prim.Native.Nat.{ℕ, _+_, _*_, _≤_, _<_}
 use native.Mathlib.Omega.{arith}
 use lib.ListN.{length}
+use Rattle.entries.specs.declared.Kind.{Kind}
+use Rattle.entries.specs.declared.Kind.the-variants.{Listing, Index}
 use Rattle.chunk.specs.Chunk.{quickCount, spacingOf}
 use Rattle.entries.specs.Stored.{Stored}
 use Rattle.fields.proofs.Lists.{All, none, more, all-append}
@@ -21,7 +22,7 @@ use Rattle.layout.specs.Layout.{Layout, layoutOver, prevOf, nextOf, chun
 use Rattle.layout.proofs.Cut.{Cut, cut-ordered, cut-some}
 use Rattle.layout.proofs.Sizes.{length-chunks, length-flat}
 
-module _ (k : Bool) (n : ℕ) where
+module _ (k : Kind) (n : ℕ) where
   pub fit-room : (g : List Stored) → Fit (entrySize k) (fits k n) g → entriesEnd k g + (2 * quickCount n (length g) + 2) ≤ 4096
   fit-room g f = omega (arith, fits-small k n (length g) (sizes (entrySize k) g) (f .small), run-length k g)
 
@@ -47,7 +48,7 @@ module _ (density content : ℕ) (es : List Stored) (gs : List (List Stored)) (c
   unfolding layoutOver
   leaves-some = cut-some density content es gs c
 
-  pub nodes-fit : All (Fit (entrySize false) (fits false n)) (flatten (l .levels))
+  pub nodes-fit : All (Fit (entrySize Index) (fits Index n)) (flatten (l .levels))
   unfolding layoutOver
   nodes-fit = index-fit n 5 0 gs (cut-ordered density content es gs c .short)
 
@@ -55,5 +56,5 @@ module _ (density content : ℕ) (es : List Stored) (gs : List (List Stored)) (c
   unfolding chunkList layoutOver
   list-whole =
       let m = length gs in
-      all-append (chunksOf true n m 0 gs) (chunksOf false n m m (flatten (l .levels)))
-      (chunks-whole true n m 0 gs (c .fit)) (chunks-whole false n m m (flatten (l .levels)) nodes-fit)
+      all-append (chunksOf Listing n m 0 gs) (chunksOf Index n m m (flatten (l .levels)))
+      (chunks-whole Listing n m 0 gs (c .fit)) (chunks-whole Index n m m (flatten (l .levels)) nodes-fit)

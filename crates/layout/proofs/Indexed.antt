@@ -8,6 +8,7 @@ use native.Mathlib.Omega.{arith}
 use lib.ListN.{length, length-append}
 use lib.Dec.{leb}
 use borrow.Author.Tests.{leb-true, leb-false}
+use Rattle.entries.specs.declared.Kind.the-variants.{Index}
 use Rattle.entries.specs.Stored.{Stored}
 use Rattle.pack.specs.Groups.{fits}
 use Rattle.pack.specs.Levels.{entrySize, childrenOf, levelsAbove}
@@ -35,7 +36,7 @@ module _ (n d c : ℕ) (gs : List (List Stored)) where
           let up = upper n d c gs in
           let others = levelsAbove n d (c + length gs) up in
           let m = above-more n d c gs h in
-          let g = groups-some (entrySize false) (fits false n) (childrenOf c gs) (omega (arith, length-children c gs)) in
+          let g = groups-some (entrySize Index) (fits Index n) (childrenOf c gs) (omega (arith, length-children c gs)) in
           record {
             one = λ z s. absurd (omega (arith, ap length m));
             more = λ s. omega (arith, ap (λ (l : List (List (List Stored))). length (flatten l)) m, length-append up (flatten others), g);

@@ -1,12 +1,12 @@
 -- The lengths of the parts of a new head: its three headers, and its chunks.
 -- Assumes nothing.
 use mathlib.Core.Path.{_≡_, refl, ap}
-use mathlib.Core.Bool.{Bool}
 use mathlib.Core.List.{List, [], _∷_, flatten}
 use Prim.Native.Nat.{ℕ, suc, _+_, _*_}
 use native.Mathlib.Omega.{arith}
 use lib.ListN.{length, length-append}
 use Rattle.fields.specs.Le.{bytes}
+use Rattle.entries.specs.declared.Kind.{Kind}
 use Rattle.entries.specs.Stored.{Stored}
 use Rattle.fields.proofs.Lists.{All, none, more}
 use Rattle.layout.specs.Headers.{fileHeader, sectionZero, directoryHeader}
@@ -29,7 +29,7 @@ length-directory language density depth root last count = refl
 -- ---- the chunks
 
 -- their number
-pub length-chunks : (k : Bool) (n m c : ℕ) (gs : List (List Stored)) → length (chunksOf k n m c gs) ≡ length gs
+pub length-chunks : (k : Kind) (n m c : ℕ) (gs : List (List Stored)) → length (chunksOf k n m c gs) ≡ length gs
 unfolding chunksOf
 length-chunks k n m c [] = refl
 length-chunks k n m c (g ∷ gs) = ap suc (length-chunks k n m (c + 1) gs)

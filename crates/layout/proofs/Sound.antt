@@ -7,6 +7,8 @@ use Prim.Native.Nat.{ℕ, zero, suc, _+_, _≤_, _<_}
 use native.Mathlib.Omega.{arith}
 use lib.ListN.{length, length-append}
 use lib.Dec.{leb}
+use Rattle.entries.specs.declared.Kind.{Kind}
+use Rattle.entries.specs.declared.Kind.the-variants.{Index}
 use Rattle.entries.specs.Rising.{rising}
 use Rattle.entries.specs.Stored.{Stored, storedName}
 use Rattle.fields.proofs.Lists.{All, none, more, all-weaken, all-append, all-parts}
@@ -49,9 +51,9 @@ children bound c ((e ∷ g) ∷ gs) (more s ss) (more (more n _) ns) (more (more
 module _ (n : ℕ) where
   -- the level above
   abbrev up : ℕ → List (List Stored) → List (List Stored)
-  up c gs = level n false (childrenOf c gs)
+  up c gs = level n Index (childrenOf c gs)
 
-  pub ordered-level : (k : Bool) (es : List Stored) → rising storedName [] es ≡ true → All Named es → All Short es → Ordered (level n k es)
+  pub ordered-level : (k : Kind) (es : List Stored) → rising storedName [] es ≡ true → All Named es → All Short es → Ordered (level n k es)
   ordered-level k es r ns ss =
       let flat = groups-flat (entrySize k) (fits k n) es in
       record {
@@ -67,12 +69,12 @@ module _ (n : ℕ) where
 
     above-ordered : Ordered (up c gs)
     above-ordered =
-        ordered-level false (childrenOf c gs) (children-rise [] c gs (o .some) (o .order))
+        ordered-level Index (childrenOf c gs) (children-rise [] c gs (o .some) (o .order))
         (all-weaken (λ (e : Stored) (k : Child bound e). k .some) above) (all-weaken (λ (e : Stored) (k : Child bound e). k .short) above)
 
     above-sound : All (Sound bound) (up c gs)
     above-sound =
-        let flat = groups-flat (entrySize false) (fits false n) (childrenOf c gs) in
+        let flat = groups-flat (entrySize Index) (fits Index n) (childrenOf c gs) in
         both (up c gs) (groups-rise [] (up c gs) (above-ordered .named) (above-ordered .order)) (all-parts (up c gs) (subst (All (Child bound)) (sym flat) above))
       where
         both : (xs : List (List Stored)) → All (λ (g : List Stored). rising storedName [] g ≡ true) xs → All (All (Child bound)) xs → All (Sound bound) xs

@@ -1,7 +1,6 @@
 -- Chunks that stand one behind another: chunk c starts 4,096 bytes times c behind the first, and is the one that the layout has there.
 -- Assumes nothing.
 use mathlib.Core.Path.{_≡_, sym, ap, _∙_}
-use mathlib.Core.Bool.{Bool, true, false}
 use mathlib.Core.List.{List, [], _∷_, _++_, flatten, append-assoc}
 use Prim.Native.Nat.{ℕ, zero, suc, _+_, _*_, _<_}
 use native.Mathlib.Nat.{zero-add}
@@ -9,6 +8,8 @@ use native.Mathlib.Omega.{arith}
 use lib.ListN.{length, getD, List·getD-append}
 use lib.Seq.{take-at, drop-append-add, getD-append-add}
 use Rattle.fields.specs.Part.{part}
+use Rattle.entries.specs.declared.Kind.{Kind}
+use Rattle.entries.specs.declared.Kind.the-variants.{Listing, Index}
 use Rattle.entries.specs.Stored.{Stored}
 use Rattle.fields.proofs.Lists.{All, none, more}
 use Rattle.compose.specs.NewChunk.{newChunk}
@@ -28,7 +29,7 @@ chunk-part (x ∷ cs) q (suc c) (more e es) h =
 
 -- ---- chunks of a layout
 
-chunk-of : (k : Bool) (n m c : ℕ) (gs : List (List Stored)) (i : ℕ) → i < length gs
+chunk-of : (k : Kind) (n m c : ℕ) (gs : List (List Stored)) (i : ℕ) → i < length gs
     → getD (chunksOf k n m c gs) i [] ≡ newChunk k n (prevOf (c + i)) (nextOf m (c + i)) (getD gs i [])
 unfolding chunksOf
 chunk-of k n m c [] i h = absurd (omega arith)
@@ -40,19 +41,19 @@ module _ (n : ℕ) (l : Layout) where
   m = length (l .leaves)
 
   abbrev listing : List (List ℕ)
-  listing = chunksOf true n m 0 (l .leaves)
+  listing = chunksOf Listing n m 0 (l .leaves)
 
   abbrev index : List (List ℕ)
-  index = chunksOf false n m m (flatten (l .levels))
+  index = chunksOf Index n m m (flatten (l .levels))
 
-  pub list-leaf : (c : ℕ) → c < m → getD (chunkList n l) c [] ≡ newChunk true n (prevOf c) (nextOf m c) (getD (l .leaves) c [])
+  pub list-leaf : (c : ℕ) → c < m → getD (chunkList n l) c [] ≡ newChunk Listing n (prevOf c) (nextOf m c) (getD (l .leaves) c [])
   unfolding chunkList
-  list-leaf c h = List·getD-append listing index [] c (rw length-chunks h) ∙ simp zero-add at (chunk-of true n m 0 (l .leaves) c h)
+  list-leaf c h = List·getD-append listing index [] c (rw length-chunks h) ∙ simp zero-add at (chunk-of Listing n m 0 (l .leaves) c h)
 
   pub list-node : (i : ℕ) → i < length (flatten (l .levels))
-      → getD (chunkList n l) (m + i) [] ≡ newChunk false n (prevOf (m + i)) (nextOf m (m + i)) (getD (flatten (l .levels)) i [])
+      → getD (chunkList n l) (m + i) [] ≡ newChunk Index n (prevOf (m + i)) (nextOf m (m + i)) (getD (flatten (l .levels)) i [])
   unfolding chunkList
   list-node i h =
-      ap (λ (k : ℕ). getD (listing ++ index) (k + i) []) (sym (length-chunks true n m 0 (l .leaves)))
+      ap (λ (k : ℕ). getD (listing ++ index) (k + i) []) (sym (length-chunks Listing n m 0 (l .leaves)))
       ∙ getD-append-add listing index i []
-      ∙ chunk-of false n m m (flatten (l .levels)) i h
+      ∙ chunk-of Index n m m (flatten (l .levels)) i h

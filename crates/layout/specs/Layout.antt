@@ -1,10 +1,12 @@
 -- The layout of a new book: what the writer takes, which entries each chunk holds, and the bytes of the head (FORMAT, Writer).
 -- Assumes nothing.
 use Prim.Native.Nat.{ℕ, _+_, _-_, _^_}
-use mathlib.Core.Bool.{Bool, true, false, cond, _&&_}
+use mathlib.Core.Bool.{Bool, cond, _&&_}
 use mathlib.Core.List.{List, [], _∷_, _++_, flatten}
 use lib.ListN.{length}
 use lib.Dec.{ltb, leb, eqb}
+use Rattle.entries.specs.declared.Kind.{Kind}
+use Rattle.entries.specs.declared.Kind.the-variants.{Listing, Index}
 use Rattle.refusals.specs.Refusals.{noChunk}
 use Rattle.chunk.specs.Chunk.{spacingOf}
 use Rattle.entries.specs.Stored.{Stored}
@@ -31,7 +33,7 @@ layoutOver n gs = record { leaves = gs; levels = levelsAbove n 5 0 gs }
 
 -- of these entries: each listing chunk takes as many as fit (W10)
 abbrev pub layoutOf : ℕ → List Stored → Layout
-layoutOf n es = layoutOver n (level n true es)
+layoutOf n es = layoutOver n (level n Listing es)
 
 abbrev pub chunkCount : Layout → ℕ
 chunkCount l = length (l .leaves) + length (flatten (l .levels))
@@ -53,14 +55,14 @@ unfoldable pub nextOf : ℕ → ℕ → ℕ
 nextOf m c = cond (ltb (c + 1) m) (c + 1) noChunk
 
 -- chunks of a kind, numbered from c on, of which the first m are the listing chunks
-unfoldable pub chunksOf : Bool → ℕ → ℕ → ℕ → List (List Stored) → List (List ℕ)
+unfoldable pub chunksOf : Kind → ℕ → ℕ → ℕ → List (List Stored) → List (List ℕ)
 chunksOf k n m c [] = []
 chunksOf k n m c (g ∷ gs) = newChunk k n (prevOf c) (nextOf m c) g ∷ chunksOf k n m (c + 1) gs
 
 -- all chunks, in the order of their numbers
 unfoldable pub chunkList : ℕ → Layout → List (List ℕ)
 chunkList n l =
-    chunksOf true n (length (l .leaves)) 0 (l .leaves) ++ chunksOf false n (length (l .leaves)) (length (l .leaves)) (flatten (l .levels))
+    chunksOf Listing n (length (l .leaves)) 0 (l .leaves) ++ chunksOf Index n (length (l .leaves)) (length (l .leaves)) (flatten (l .levels))
 
 -- ---- the head
 

@@ -12,6 +12,7 @@ use borrow.Author.Tests.{leb-true, lt-leb}
 use Rattle.entries.specs.declared.Place.{Place}
 use Rattle.entries.specs.declared.Item.{Item}
 use Rattle.entries.specs.declared.Item.the-variants.{Good}
+use Rattle.entries.specs.declared.Kind.{Kind}
 use Rattle.chunk.specs.Chunk.{headOf, quickCount}
 use Rattle.source.specs.Source.{itemFrom, endOf, rowsFrom}
 use Rattle.entries.proofs.Laws.{onItem}
@@ -23,7 +24,7 @@ use Rattle.pack.specs.declared.Fit.the-variants.{Entry, Full}
 use Rattle.pack.proofs.Groups.{sizes}
 use Rattle.pack.proofs.Sizes.{row-long}
 
-module _ (k : Bool) (n c b at left : ℕ) where
+module _ (k : Kind) (n c b at left : ℕ) where
   pub extent-none : (es : List Place) → es ≡ [] → extentFrom k n c b at left es ≡ record { count = c; bytes = b; at = at; left = left }
   unfolding extentFrom
   extent-none es h = rw h
@@ -38,13 +39,13 @@ module _ (k : Bool) (n c b at left : ℕ) where
     extent-full f = rw (h, f)
 
 -- as a whole: m entries more, their bytes, and where they end
-pub record Extends (k : Bool) (n c b at left : ℕ) (es : List Place) (m : ℕ) (x : Extent) : Type 0 where
+pub record Extends (k : Kind) (n c b at left : ℕ) (es : List Place) (m : ℕ) (x : Extent) : Type 0 where
   pub count : x .count ≡ c + m
   pub bytes : x .bytes ≡ b + sizes (rowSize k) (take m es)
   pub ends : x .at ≡ endOf at (take m es)
   pub less : x .left ≡ left - m
 
-pub extent-is : (k : Bool) (n c b at left : ℕ) (es : List Place) → Extends k n c b at left es (taken (rowSize k) (fits k n) c b es) (extentFrom k n c b at left es)
+pub extent-is : (k : Kind) (n c b at left : ℕ) (es : List Place) → Extends k n c b at left es (taken (rowSize k) (fits k n) c b es) (extentFrom k n c b at left es)
 unfolding extentFrom taken endOf sizes
 extent-is k n c b at left [] = record { count = sym (add-zero c); bytes = sym (add-zero b); ends = refl; less = omega arith }
 extent-is k n c b at left (e ∷ es) = go (fits k n (c + 1) (b + rowSize k e)) (extent-is k n (c + 1) (b + rowSize k e) (e .next) (left - 1) es)
@@ -58,12 +59,12 @@ extent-is k n c b at left (e ∷ es) = go (fits k n (c + 1) (b + rowSize k e)) (
     go false x = record { count = sym (add-zero c); bytes = sym (add-zero b); ends = refl; less = omega arith }
 
 -- what fits is small
-pub fits-small : (k : Bool) (n c b : ℕ) → fits k n c b ≡ true → headOf k + b + (2 * quickCount n c + 2) ≤ 4096
+pub fits-small : (k : Kind) (n c b : ℕ) → fits k n c b ≡ true → headOf k + b + (2 * quickCount n c + 2) ≤ 4096
 fits-small k n c b h = leb-true _ _ h
 
 -- ---- the entry that is next: c entries of b bytes are taken, and the cursor is at a place
 
-pub fit-over : (k : Bool) (n c b : ℕ) (es : List Place) → 4096 < b → fitOf k n c b es ≡ Full
+pub fit-over : (k : Kind) (n c b : ℕ) (es : List Place) → 4096 < b → fitOf k n c b es ≡ Full
 unfolding fitOf
 fit-over k n c b [] h = refl
 fit-over k n c b (e ∷ es) h =
@@ -78,7 +79,7 @@ left-out : (t : Bool) (x : Place) (y : ℕ) → cond t (Entry x y) Full ≡ Full
 left-out true x y q = absurd (let z : _≡_ {A = ℕ} 0 1 = cc in omega arith)
 left-out false x y q = refl
 
-module _ (content : ℕ) (s starts : List ℕ) (k : Bool) (n c b left at : ℕ) where
+module _ (content : ℕ) (s starts : List ℕ) (k : Kind) (n c b left at : ℕ) where
   abbrev rows : ℕ → ℕ → List Place
   rows l p = rowsFrom content s starts k l p
 

@@ -2,7 +2,6 @@
 -- their first names (`starts-of`).
 -- Assumes nothing.
 use mathlib.Core.Path.{_≡_, refl, sym, ap, ap₂, subst, _∙_}
-use mathlib.Core.Bool.{Bool, true, false}
 use mathlib.Core.List.{List, [], _∷_, _++_, map}
 use Prim.Native.Nat.{ℕ, zero, suc, _+_, _-_, _<_}
 use native.Mathlib.Omega.{arith}
@@ -17,6 +16,8 @@ use Rattle.encint.specs.declared.Number.the-variants.{Value, Bad}
 use Rattle.entries.specs.Entry.{withNumber, nameAt}
 use Rattle.entries.specs.declared.Place.{Place}
 use Rattle.entries.specs.declared.Item.the-variants.{Good}
+use Rattle.entries.specs.declared.Kind.{Kind}
+use Rattle.entries.specs.declared.Kind.the-variants.{Listing, Index}
 use Rattle.entries.specs.Stored.{Stored, storedOf}
 use Rattle.source.specs.Source.{childAt, itemFrom, endOf, rowsFrom}
 use Rattle.source.specs.Input.{given}
@@ -33,7 +34,7 @@ use Rattle.pack.proofs.Filling.{extent-is}
 
 -- ---- one chunk after another
 
-module _ (content : ℕ) (s starts : List ℕ) (k : Bool) (n left at : ℕ) where
+module _ (content : ℕ) (s starts : List ℕ) (k : Kind) (n left at : ℕ) where
   abbrev rows : List Place
   rows = rowsFrom content s starts k left at
 
@@ -78,7 +79,7 @@ module _ (content : ℕ) (s starts : List ℕ) (k : Bool) (n left at : ℕ) wher
 -- ---- what they hold
 
 -- a level's chunks, apart from where their entries stand
-pub chunks-level : (content : ℕ) (s starts : List ℕ) (k : Bool) (n left at : ℕ)
+pub chunks-level : (content : ℕ) (s starts : List ℕ) (k : Kind) (n left at : ℕ)
     → map (map (storedOf s)) (chunksFrom content s starts k n left at) ≡ level n k (map (storedOf s) (rowsFrom content s starts k left at))
 unfolding chunksFrom
 chunks-level content s starts k n left at =
@@ -87,9 +88,9 @@ chunks-level content s starts k n left at =
 
 -- the listing level: the input
 pub chunks-given : (content : ℕ) (s starts : List ℕ) (n : ℕ)
-    → map (map (storedOf s)) (chunksFrom content s starts true n (length s) 0) ≡ level n true (given content s)
+    → map (map (storedOf s)) (chunksFrom content s starts Listing n (length s) 0) ≡ level n Listing (given content s)
 unfolding given itemFrom
-chunks-given content s starts n = chunks-level content s starts true n (length s) 0
+chunks-given content s starts n = chunks-level content s starts Listing n (length s) 0
 
 -- an index level: one entry for each chunk whose first name is known
 
@@ -103,9 +104,9 @@ name-there s p h = go (nameAt s p) refl h
     go (Value len start) e h = (len, start, e, refl)
 
 children : (content : ℕ) (s front ps : List ℕ) (gs : List (List Stored)) → Starts s ps gs
-    → map (storedOf s) (rowsFrom content s (front ++ ps) false (length ps) (length front)) ≡ childrenOf (length front) gs
+    → map (storedOf s) (rowsFrom content s (front ++ ps) Index (length ps) (length front)) ≡ childrenOf (length front) gs
 unfolding childrenOf itemFrom childAt
-children content s front [] [] Starts.none = ap (map (storedOf s)) (run-spent (itemFrom content s (front ++ []) false) 0 (length front) (omega arith))
+children content s front [] [] Starts.none = ap (map (storedOf s)) (run-spent (itemFrom content s (front ++ []) Index) 0 (length front) (omega arith))
 children content s front (p ∷ ps) (g ∷ gs) (Starts.more e some rest) =
     let c = length front in
     let starts : List ℕ = front ++ (p ∷ ps) in
@@ -113,19 +114,19 @@ children content s front (p ∷ ps) (g ∷ gs) (Starts.more e some rest) =
     let t = name-there s p (subst (λ (y : List ℕ). 0 < length y) (sym e) some) in
     let row : Place = record { at = getD starts c 0; start = t .1; len = t .0; section = 0; offset = 0; size = 0; child = c; next = c + 1 } in
     let v : getD starts c 0 ≡ p = getD-append-seam front p ps 0 in
-    let q : itemFrom content s starts false c ≡ Good row = rw (lt-ltb c (length starts) l, v, t .2) in
+    let q : itemFrom content s starts Index c ≡ Good row = rw (lt-ltb c (length starts) l, v, t .2) in
     let snoc : starts ≡ (front ++ (p ∷ [])) ++ ps = sym (append-snoc front p ps) in
     let n : c + 1 ≡ length (front ++ (p ∷ [])) = sym (length-append front (p ∷ [])) in
     let z : length (p ∷ ps) - 1 ≡ length ps = omega arith in
-    ap (map (storedOf s)) (run-more (itemFrom content s starts false) (length (p ∷ ps)) c row (omega arith) q)
+    ap (map (storedOf s)) (run-more (itemFrom content s starts Index) (length (p ∷ ps)) c row (omega arith) q)
     ∙ ap₂ (λ (x : List ℕ) (r : List Stored). record { name = x; section = 0; offset = 0; size = 0; child = c } ∷ r) (sym (t .3) ∙ e)
-    (ap₂ (λ (y : List ℕ) (j : ℕ). map (storedOf s) (rowsFrom content s y false (length (p ∷ ps) - 1) j)) snoc n
-    ∙ ap (λ (j : ℕ). map (storedOf s) (rowsFrom content s ((front ++ (p ∷ [])) ++ ps) false j (length (front ++ (p ∷ []))))) z
+    (ap₂ (λ (y : List ℕ) (j : ℕ). map (storedOf s) (rowsFrom content s y Index (length (p ∷ ps) - 1) j)) snoc n
+    ∙ ap (λ (j : ℕ). map (storedOf s) (rowsFrom content s ((front ++ (p ∷ [])) ++ ps) Index j (length (front ++ (p ∷ []))))) z
     ∙ children content s (front ++ (p ∷ [])) ps gs rest ∙ ap (λ (j : ℕ). childrenOf j gs) (sym n))
 
 pub chunks-children : (content : ℕ) (s front ps : List ℕ) (n : ℕ) (gs : List (List Stored)) → Starts s ps gs
-    → map (map (storedOf s)) (chunksFrom content s (front ++ ps) false n (length ps) (length front)) ≡ level n false (childrenOf (length front) gs)
-chunks-children content s front ps n gs h = chunks-level content s (front ++ ps) false n (length ps) (length front) ∙ ap (level n false) (children content s front ps gs h)
+    → map (map (storedOf s)) (chunksFrom content s (front ++ ps) Index n (length ps) (length front)) ≡ level n Index (childrenOf (length front) gs)
+chunks-children content s front ps n gs h = chunks-level content s (front ++ ps) Index n (length ps) (length front) ∙ ap (level n Index) (children content s front ps gs h)
 
 -- ---- their first names
 
@@ -140,7 +141,7 @@ starts-all s ((e ∷ g) ∷ gs) (more p ps) (more r rs) =
     let n : withNumber (nameAt s (e .at)) [] (λ len start. part s start len) ≡ part s (e .start) (e .len) = rw (w .named) in
     Starts.more {g = storedOf s e ∷ map (storedOf s) g} n (omega (arith, w .some)) (starts-all s gs ps rs)
 
-pub starts-of : (content : ℕ) (s starts : List ℕ) (k : Bool) (n left at : ℕ)
+pub starts-of : (content : ℕ) (s starts : List ℕ) (k : Kind) (n left at : ℕ)
     → Starts s (map firstAt (chunksFrom content s starts k n left at)) (map (map (storedOf s)) (chunksFrom content s starts k n left at))
 unfolding chunksFrom
 starts-of content s starts k n left at =

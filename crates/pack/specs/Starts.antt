@@ -3,12 +3,12 @@
 -- Assumes nothing.
 use Prim.Native.Nat.{ℕ, _+_, _<_}
 use mathlib.Core.Path.{_≡_}
-use mathlib.Core.Bool.{Bool}
 use mathlib.Core.List.{List, [], _∷_}
 use lib.ListN.{length}
 use Rattle.fields.specs.Part.{part}
 use Rattle.entries.specs.Entry.{withNumber, nameAt}
 use Rattle.entries.specs.declared.Place.{Place}
+use Rattle.entries.specs.declared.Kind.{Kind}
 use Rattle.entries.specs.Stored.{Stored}
 use Rattle.source.specs.Source.{rowsFrom}
 use Rattle.pack.specs.Groups.{fits, groups}
@@ -16,7 +16,7 @@ use Rattle.pack.specs.Levels.{firstName}
 use Rattle.pack.specs.Fill.{rowSize}
 
 -- the chunks of a level, from a cursor on
-unfoldable pub chunksFrom : ℕ → List ℕ → List ℕ → Bool → ℕ → ℕ → ℕ → List (List Place)
+unfoldable pub chunksFrom : ℕ → List ℕ → List ℕ → Kind → ℕ → ℕ → ℕ → List (List Place)
 chunksFrom content s starts k n left at = groups (rowSize k) (fits k n) (rowsFrom content s starts k left at)
 
 -- where the first entry of a chunk stands

@@ -6,6 +6,7 @@ ghost use Rattle.source.specs.Source.{rowsFrom};
 ghost use Rattle.pack.specs.Groups.{fits as fitsIn};
 ghost use Rattle.pack.specs.Fill.{sizeOf, fitOf, extentFrom};
 use entries::Item;
+use entries::Kind;
 use entries::Place;
 use source::Cursor;
 
@@ -34,8 +35,8 @@ fn quick_words(count: usize, n: usize) -> usize
 }
 
 // Whether an entry behind `count` others fits a chunk, where all of them have `bytes` bytes.
-pub fn fits(listing: bool, n: usize, count: usize, bytes: usize) -> bool
-    ensures { λ r. ⌜ r ≡ fitsIn listing n (count + 1) bytes ⌝ }
+pub fn fits(kind: Kind, n: usize, count: usize, bytes: usize) -> bool
+    ensures { λ r. ⌜ r ≡ fitsIn kind n (count + 1) bytes ⌝ }
 {
     if 4096 < bytes {
         return false;
@@ -44,21 +45,23 @@ pub fn fits(listing: bool, n: usize, count: usize, bytes: usize) -> bool
     if 2047 < words {
         return false;
     }
-    chunk::head(listing) + bytes + (2 * words + 2) <= 4096
+    chunk::first_place(kind) + bytes + (2 * words + 2) <= 4096
 }
 
 // How many bytes an entry takes where it is written from its numbers; 4,097 where its name alone is longer than a chunk.
-pub fn entry_size(listing: bool, e: Place) -> usize
-    ensures { λ r. ⌜ r ≡ sizeOf listing e ⌝ }
+pub fn entry_size(kind: Kind, e: Place) -> usize
+    ensures { λ r. ⌜ r ≡ sizeOf kind e ⌝ }
 {
     if 4096 < e.len {
         return 4097;
     }
     let name = encint::size(e.len as u64) + e.len;
-    if listing {
-        return name + encint::size(e.section) + encint::size(e.offset) + encint::size(e.size);
+    match kind {
+        Kind::Listing => {
+            name + encint::size(e.section) + encint::size(e.offset) + encint::size(e.size)
+        }
+        Kind::Index => name + encint::size(e.child),
     }
-    name + encint::size(e.child)
 }
 
 // The next entry of a chunk that has taken so much, if it fits.
@@ -66,25 +69,25 @@ pub fn next_fit(
     input: &[u8],
     starts: &[usize],
     content: u64,
-    listing: bool,
+    kind: Kind,
     n: usize,
     f: Extent,
 ) -> Fit
-    ensures { λ r. ⌜ r ≡ fitOf listing n (f .count) (f .bytes) (rowsFrom content (now (input .entry)) (now (starts .entry)) listing (f .left) (f .at)) ⌝ }
+    ensures { λ r. ⌜ r ≡ fitOf kind n (f .count) (f .bytes) (rowsFrom content (now (input .entry)) (now (starts .entry)) kind (f .left) (f .at)) ⌝ }
 {
     if 4096 < f.bytes {
         return Fit::Full;
     }
     let c = Cursor {
-        listing,
+        kind,
         at: f.at,
         left: f.left,
     };
     let Item::Good(e) = source::step(input, starts, content, c) else {
         return Fit::Full;
     };
-    let bytes = f.bytes + entry_size(listing, e);
-    if fits(listing, n, f.count, bytes) {
+    let bytes = f.bytes + entry_size(kind, e);
+    if fits(kind, n, f.count, bytes) {
         return Fit::Entry(e, bytes);
     }
     Fit::Full
@@ -92,8 +95,9 @@ pub fn next_fit(
 
 // The entries from a cursor on that go into one chunk: as many as fit.
 pub fn fill(input: &[u8], starts: &[usize], content: u64, from: Cursor, n: usize) -> Extent
-    ensures { λ r. ⌜ r ≡ extentFrom (from .listing) n 0 0 (from .at) (from .left) (rowsFrom content (now (input .entry)) (now (starts .entry)) (from .listing) (from .left) (from .at)) ⌝ }
+    ensures { λ r. ⌜ r ≡ extentFrom (from .kind) n 0 0 (from .at) (from .left) (rowsFrom content (now (input .entry)) (now (starts .entry)) (from .kind) (from .left) (from .at)) ⌝ }
 {
+    let kind = from.kind;
     let mut f = Extent {
         count: 0,
         bytes: 0,
@@ -101,7 +105,7 @@ pub fn fill(input: &[u8], starts: &[usize], content: u64, from: Cursor, n: usize
         left: from.left,
     };
     loop {
-        let Fit::Entry(e, bytes) = next_fit(input, starts, content, from.listing, n, f) else {
+        let Fit::Entry(e, bytes) = next_fit(input, starts, content, kind, n, f) else {
             return f;
         };
         f = Extent {

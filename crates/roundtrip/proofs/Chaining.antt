@@ -10,7 +10,8 @@ use lib.Dec.{eqb}
 use borrow.Author.Tests.{lt-ltb, le-ltb, eq-eqb, ne-eqb}
 use Rattle.refusals.specs.Refusals.{noChunk}
 use Rattle.names.specs.Names.{below}
-use Rattle.chunk.specs.Chunk.{Parsed}
+use Rattle.entries.specs.declared.Kind.the-variants.{Listing}
+use Rattle.chunk.specs.Chunk.{Parsed, headOf}
 use Rattle.tree.specs.Lists.{member, everyBelow}
 use Rattle.tree.specs.Shape as shape
 use Rattle.tree.specs.Shape.{Shape, isListing, lastName, listingChunk}
@@ -59,8 +60,8 @@ module _ (D : ℕ → Parsed) (H : Shape) (m : ℕ) (room : m ≤ H .count) (sma
       let x : shape.nextOf (D c) ≡ c + 1 = ap shape.nextOf (s .0) ∙ next-is m c (omega arith) in
       let v : shape.previousOf (D c) ≡ p = ap shape.previousOf (s .0) ∙ q in
       let z : eqb (c + 1) noChunk ≡ false = ne-eqb (c + 1) noChunk (omega arith) in
-      let t : rising storedName (lastName (D c)) (flatten (h ∷ gs)) ≡ true = rw (s .0) (placed-last true 20 last g (flatten (h ∷ gs)) a r) in
-      let y : shape.firstName (D (c + 1)) ≡ firstName h = rw (s .1 .0) (placed-first true 20 h) in
+      let t : rising storedName (lastName (D c)) (flatten (h ∷ gs)) ≡ true = rw (s .0) (placed-last Listing (headOf Listing) last g (flatten (h ∷ gs)) a r) in
+      let y : shape.firstName (D (c + 1)) ≡ firstName h = rw (s .1 .0) (placed-first Listing (headOf Listing) h) in
       let b′ : below (lastName (D c)) (shape.firstName (D (c + 1))) ≡ true = rw y (rising-first (lastName (D c)) h (flatten gs) b t) in
       let w = run n c (c + 1) (lastName (D c)) h gs (omega arith) (omega arith) (prev-is c) t (more b as′) (s .1) in
       (rw (x, z, w .0), rw (k, v, eq-eqb p p refl, x, z, b′, w .1))

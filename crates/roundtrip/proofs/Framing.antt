@@ -5,12 +5,13 @@ use Prim.Native.Nat.{ℕ, _+_, _-_, _*_, _≤_, _<_, _^_}
 use native.Mathlib.Omega.{arith}
 use native.Mathlib.Decide.{ℕ-discrete}
 use mathlib.Core.Path.{_≡_, refl, sym, ap, _∙_}
-use mathlib.Core.Bool.{true, false}
+use mathlib.Core.Bool.{true}
 use mathlib.Core.List.{List, [], _∷_, _++_, flatten}
 use lib.ListN.{length, getD}
 use borrow.Author.Tests.{le-leb, eq-eqb, ne-eqb}
 use Rattle.fields.specs.Le.{le}
 use Rattle.fields.proofs.Parts.{part-inside}
+use Rattle.entries.specs.declared.Kind.the-variants.{Listing, Index}
 use Rattle.chunk.specs.Chunk.{spacingOf}
 use Rattle.file_header.specs.FileHeader.{fileFieldsOf}
 use Rattle.file_header.specs.declared.FileFields.{FileFields}
@@ -130,10 +131,10 @@ module _ (density time language : ℕ) (l : Layout) (content : List ℕ) (dense 
 
   pub leaf-read : (c : ℕ) → c < length (l .leaves)
       → chunkBytes file (recordFor density time language l) c
-      ≡ newChunk true (spacingOf density) (prevOf c) (nextOf (length (l .leaves)) c) (getD (l .leaves) c [])
+      ≡ newChunk Listing (spacingOf density) (prevOf c) (nextOf (length (l .leaves)) c) (getD (l .leaves) c [])
   leaf-read c h = chunk-is c (omega arith) ∙ list-leaf (spacingOf density) l c h
 
   pub node-read : (i : ℕ) → i < length (flatten (l .levels))
       → chunkBytes file (recordFor density time language l) (length (l .leaves) + i)
-      ≡ newChunk false (spacingOf density) (prevOf (length (l .leaves) + i)) (nextOf (length (l .leaves)) (length (l .leaves) + i)) (getD (flatten (l .levels)) i [])
+      ≡ newChunk Index (spacingOf density) (prevOf (length (l .leaves) + i)) (nextOf (length (l .leaves)) (length (l .leaves) + i)) (getD (flatten (l .levels)) i [])
   node-read i h = chunk-is (length (l .leaves) + i) (omega arith) ∙ list-node (spacingOf density) l i h

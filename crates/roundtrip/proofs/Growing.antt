@@ -3,7 +3,7 @@
 -- Assumes nothing.
 use mathlib.Core.Path.{_≡_, refl, sym, ap, ap₂, subst, _∙_}
 use mathlib.Core.Logic.{inl, inr}
-use mathlib.Core.Bool.{true, false}
+use mathlib.Core.Bool.{true}
 use mathlib.Core.List.{List, [], _∷_, _++_, flatMap, flatten}
 use Prim.Native.Nat.{ℕ, zero, suc, _+_, _≤_, _<_}
 use native.Mathlib.Omega.{arith}
@@ -13,7 +13,8 @@ use lib.Dec.{ltb}
 use borrow.Author.Tests.{ltb-true, ltb-false}
 use Rattle.fields.specs.Same.{same}
 use Rattle.fields.proofs.Same.{same-self}
-use Rattle.chunk.specs.Chunk.{Parsed, entriesIn}
+use Rattle.entries.specs.declared.Kind.the-variants.{Index}
+use Rattle.chunk.specs.Chunk.{Parsed, entriesIn, headOf}
 use Rattle.tree.specs.Shape as shape
 use Rattle.tree.specs.Lists.{In, allOf}
 use Rattle.tree.specs.Shape.{Shape, isIndex, indexChunk}
@@ -34,10 +35,10 @@ use Rattle.roundtrip.proofs.Stand.{asNode, Stand, stand-left, stand-rig
 -- ---- lists taken over the children
 
 module _ (f : ℕ → List ℕ) where
-  flat-placed : (at : ℕ) (g : List Stored) → flatMap (λ e. f (e .child)) (placedFrom false at g) ≡ flatMap (λ e. f (e .child)) g
+  flat-placed : (at : ℕ) (g : List Stored) → flatMap (λ e. f (e .child)) (placedFrom Index at g) ≡ flatMap (λ e. f (e .child)) g
   unfolding flatMap placedFrom
   flat-placed at [] = refl
-  flat-placed at (e ∷ g) = ap (λ (l : List ℕ). f (e .child) ++ l) (flat-placed (at + entrySize false e) g)
+  flat-placed at (e ∷ g) = ap (λ (l : List ℕ). f (e .child) ++ l) (flat-placed (at + entrySize Index e) g)
 
   flat-children : (c : ℕ) (gs : List (List Stored)) → flatMap (λ e. f (e .child)) (childrenOf c gs) ≡ flatMap f (numbers c (length gs))
   unfolding flatMap childrenOf numbers
@@ -50,7 +51,7 @@ module _ (f : ℕ → List ℕ) where
   unfolding flatMap numbers flatten
   flat-stand D c [] s = refl
   flat-stand D c (g ∷ gs) s =
-      ap₂ (λ (a b : List ℕ). a ++ b) (ap (λ (x : Parsed). flatMap (λ e. f (e .child)) (entriesIn x)) (s .0) ∙ flat-placed 8 g) (flat-stand D (c + 1) gs (s .1))
+      ap₂ (λ (a b : List ℕ). a ++ b) (ap (λ (x : Parsed). flatMap (λ e. f (e .child)) (entriesIn x)) (s .0) ∙ flat-placed (headOf Index) g) (flat-stand D (c + 1) gs (s .1))
       ∙ sym (flat-append (λ e. f (e .child)) g (flatten gs))
 
 module _ (D : ℕ → Parsed) (H : Shape) (m : ℕ) where
@@ -76,20 +77,20 @@ module _ (D : ℕ → Parsed) (H : Shape) (m : ℕ) where
   children-right l c [] h = none
   children-right l c (g ∷ gs) h = more (sym (h .0), h .1) (children-right l (c + 1) gs (h .2))
 
-  children-pass : (l at : ℕ) (g : List Stored) → All (Child l) g → allOf (childOk D H l) (placedFrom false at g) ≡ true
+  children-pass : (l at : ℕ) (g : List Stored) → All (Child l) g → allOf (childOk D H l) (placedFrom Index at g) ≡ true
   unfolding placedFrom
   children-pass l at [] none = refl
   children-pass l at (e ∷ g) (more p ps) =
       let s : same (e .name) (shape.firstName (D (e .child))) ≡ true = subst (λ (y : List ℕ). same (e .name) y ≡ true) (p .0) (same-self (e .name)) in
-      rw (s, p .1, children-pass l (at + entrySize false e) g ps)
+      rw (s, p .1, children-pass l (at + entrySize Index e) g ps)
 
   named-up : (l c : ℕ) (gs : List (List Stored)) → c + length gs ≤ H .count → All (All (Child l)) gs → Stand D asNode c gs → Named (suc l) c gs
   unfolding shaped
   named-up l c [] b none s = tt
   named-up l c (g ∷ gs) b (more p ps) s =
       let k : indexChunk D H c ≡ true = is-index D H c (omega arith) ∙ ap isIndex (s .0) in
-      let a : allOf (childOk D H l) (entriesIn (D c)) ≡ true = rw (s .0) (children-pass l 8 g p) in
-      (rw (s .0) (placed-first false 8 g), rw (k, a), named-up l (c + 1) gs (omega arith) ps (s .1))
+      let a : allOf (childOk D H l) (entriesIn (D c)) ≡ true = rw (s .0) (children-pass l (headOf Index) g p) in
+      (rw (s .0) (placed-first Index (headOf Index) g), rw (k, a), named-up l (c + 1) gs (omega arith) ps (s .1))
 
   module _ (l c : ℕ) (gs up : List (List Stored)) (whole : flatten up ≡ childrenOf c gs) (s : Stand D asNode (c + length gs) up) where
     abbrev above : List ℕ
@@ -176,8 +177,8 @@ module _ (D : ℕ → Parsed) (H : Shape) (m : ℕ) where
             let ls = levelsAbove n d (c + length gs) up in
             let q : levelsAbove n (suc d) c gs ≡ up ∷ ls = above-more n d c gs (omega arith) in
             let b = above-lower d c gs up ls (subst (Above (suc d) c gs) q a) in
-            let whole : flatten up ≡ childrenOf c gs = groups-flat (entrySize false) (fits false n) (childrenOf c gs) in
-            let full : 0 < length up = groups-some (entrySize false) (fits false n) (childrenOf c gs) (omega (arith, length-children c gs)) in
+            let whole : flatten up ≡ childrenOf c gs = groups-flat (entrySize Index) (fits Index n) (childrenOf c gs) in
+            let full : 0 < length up = groups-some (entrySize Index) (fits Index n) (childrenOf c gs) (omega (arith, length-children c gs)) in
             let w = reach n d (suc l) (c + length gs) up full (b .2) (level-up l c gs up whole (b .1) (b .0) v) in
             subst (Top l c gs) (sym q) (top-above l c gs up ls w)
       ]

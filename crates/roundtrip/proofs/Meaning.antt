@@ -2,9 +2,9 @@
 -- Assumes nothing.
 use Prim.Native.Nat.{ℕ, _+_, _-_, _<_}
 use mathlib.Core.Path.{_≡_}
-use mathlib.Core.Bool.{true, false}
 use mathlib.Core.List.{[], flatten}
 use lib.ListN.{length, getD}
+use Rattle.entries.specs.declared.Kind.the-variants.{Listing, Index}
 use Rattle.chunk.specs.Chunk.{Parsed}
 use Rattle.tree.specs.Shape.{Shape}
 use Rattle.compose.proofs.Placed.{newParsed}
@@ -17,6 +17,6 @@ shapeFor l =
 -- the listing chunks come first, then the index chunks
 pub record Means (D : ℕ → Parsed) (l : Layout) : Type 0 where
   pub leaf : (c : ℕ) → c < length (l .leaves)
-      → D c ≡ newParsed true (prevOf c) (nextOf (length (l .leaves)) c) (getD (l .leaves) c [])
+      → D c ≡ newParsed Listing (prevOf c) (nextOf (length (l .leaves)) c) (getD (l .leaves) c [])
   pub node : (i : ℕ) → i < length (flatten (l .levels))
-      → D (length (l .leaves) + i) ≡ newParsed false 0 0 (getD (flatten (l .levels)) i [])
+      → D (length (l .leaves) + i) ≡ newParsed Index 0 0 (getD (flatten (l .levels)) i [])

@@ -10,6 +10,7 @@ use lib.ListN.{length, getD}
 use lib.Dec.{ltb}
 use borrow.Author.Tests.{ltb-true, eq-eqb, ne-eqb}
 use Rattle.entries.specs.declared.Limits.{Limits}
+use Rattle.entries.specs.declared.Kind.the-variants.{Listing, Index}
 use Rattle.chunk.specs.Chunk.{parsed, spacingOf}
 use Rattle.header.specs.Header.{headerOf}
 use Rattle.header.specs.declared.Record.{Record}
@@ -53,11 +54,11 @@ next-small m c h = go (ltb (c + 1) m) refl
 
 -- ---- entries that a chunk takes
 
-kept-allowed : (limits : Limits) (e : Stored) → Kept (limits .content) e → Allowed limits true e
+kept-allowed : (limits : Limits) (e : Stored) → Kept (limits .content) e → Allowed limits Listing e
 kept-allowed limits e k =
     record { some = k .some; short = k .short; numbers = (k .section, k .offset, k .size, k .within, k .childless) }
 
-child-allowed : (limits : Limits) → limits .count ≤ 4096 → (e : Stored) → Child (limits .count) e → Allowed limits false e
+child-allowed : (limits : Limits) → limits .count ≤ 4096 → (e : Stored) → Child (limits .count) e → Allowed limits Index e
 child-allowed limits h e k =
     record { some = k .some; short = k .short; numbers = (k .below, omega (arith, k .below), k .section, k .offset, k .size) }
 
@@ -128,7 +129,7 @@ module _ (density time language : ℕ) (es : List Stored) (gs : List (List Store
             let x = getD gs c [] in
             let f = all-at [] gs c (cut .fit) h in
             ap₂ parsed limits-are (leaf-read density time language l content (cut .dense) t g (cut .small) small some one index-some whole c h)
-            ∙ parsed-new limits true (prevOf c) (nextOf m c) x (prev-small c (omega (arith, few))) (next-small m c (omega (arith, few))) (f .some) (fit-room true n x f)
+            ∙ parsed-new limits Listing (prevOf c) (nextOf m c) x (prev-small c (omega (arith, few))) (next-small m c (omega (arith, few))) (f .some) (fit-room Listing n x f)
             (all-at [] gs c (groups-rise [] gs (ordered .named) (ordered .order)) h)
             (all-weaken (kept-allowed limits) (all-at [] gs c (cut-kept density (length content) es gs cut) h));
         node = λ i h.
@@ -136,6 +137,6 @@ module _ (density time language : ℕ) (es : List Stored) (gs : List (List Store
             let f = all-at [] (flatten (l .levels)) i (nodes-fit density (length content) es gs cut) h in
             let o = all-at [] (flatten (l .levels)) i nodes-sound h in
             ap₂ parsed limits-are (node-read density time language l content (cut .dense) t g (cut .small) small some one index-some whole i h)
-            ∙ parsed-new limits false (prevOf (m + i)) (nextOf m (m + i)) x (prev-small (m + i) (omega (arith, few))) (next-small m (m + i) (omega (arith, few))) (f .some) (fit-room false n x f)
+            ∙ parsed-new limits Index (prevOf (m + i)) (nextOf m (m + i)) x (prev-small (m + i) (omega (arith, few))) (next-small m (m + i) (omega (arith, few))) (f .some) (fit-room Index n x f)
             (o .order) (all-weaken (child-allowed limits few) (o .entries));
       }

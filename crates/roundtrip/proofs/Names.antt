@@ -1,7 +1,6 @@
 -- The names of a listing chunk's entries stand in the chunk, where the entries say.
 -- Assumes nothing.
 use mathlib.Core.Path.{_≡_, sym, ap, subst}
-use mathlib.Core.Bool.{true}
 use mathlib.Core.List.{List}
 use Prim.Native.Nat.{ℕ, zero, suc, _+_, _≤_}
 use native.Mathlib.Omega.{arith}
@@ -9,6 +8,7 @@ use lib.ListN.{length}
 use Rattle.fields.specs.Part.{part}
 use Rattle.fields.proofs.Parts.{length-part}
 use Rattle.entries.specs.declared.Limits.{Limits}
+use Rattle.entries.specs.declared.Kind.the-variants.{Listing}
 use Rattle.entries.proofs.Laws.{item-inside}
 use Rattle.chunk.specs.Chunk.{Entry, all, entriesAt}
 use Rattle.chunk.proofs.Accepted.{entries-more, entries-none}
@@ -19,10 +19,10 @@ pub record There (s : List ℕ) (e : Entry) : Type 0 where
   pub inside : e .start + length (e .name) ≤ length s
   pub bytes : part s (e .start) (length (e .name)) ≡ e .name
 
-pub names-there : (limits : Limits) (s : List ℕ) (end n at : ℕ) (es : List Entry) → entriesAt limits true s end n at ≡ all es → All (There s) es
-names-there limits s end zero at es e = subst (All (There s)) (sym (entries-none limits true s end at es e)) none
+pub names-there : (limits : Limits) (s : List ℕ) (end n at : ℕ) (es : List Entry) → entriesAt limits Listing s end n at ≡ all es → All (There s) es
+names-there limits s end zero at es e = subst (All (There s)) (sym (entries-none limits Listing s end at es e)) none
 names-there limits s end (suc n) at es e =
-    let m = entries-more limits true s end n at es e in
+    let m = entries-more limits Listing s end n at es e in
     let p = m .0 in
     let r = item-inside limits true s at p (m .2) .name in
     let l = length-part s (p .start) (p .len) r in

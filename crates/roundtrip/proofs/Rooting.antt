@@ -10,7 +10,8 @@ use lib.Dec.{eqb}
 use borrow.Author.Tests.{eqb-true}
 use Rattle.fields.specs.Same.{same}
 use Rattle.fields.proofs.Same.{same-self}
-use Rattle.chunk.specs.Chunk.{Parsed}
+use Rattle.entries.specs.declared.Kind.the-variants.{Listing}
+use Rattle.chunk.specs.Chunk.{Parsed, headOf}
 use Rattle.tree.specs.Lists.{In, member, everyBelow}
 use Rattle.tree.specs.Shape.{Shape, isListing, isIndex, listingChunk}
 use Rattle.tree.specs.Chain.{chain}
@@ -37,7 +38,7 @@ module _ (D : ℕ → Parsed) (H : Shape) (m : ℕ) where
   named-leaves c [] b s = tt
   named-leaves c (g ∷ gs) b s =
       let k : listingChunk D H c ≡ true = is-listing D H c (omega arith) ∙ ap isListing (s .0) in
-      (rw (s .0) (placed-first true 20 g), k, named-leaves (c + 1) gs (omega arith) (s .1))
+      (rw (s .0) (placed-first Listing (headOf Listing) g), k, named-leaves (c + 1) gs (omega arith) (s .1))
 
 pub ground : (D : ℕ → Parsed) (H : Shape) (gs : List (List Stored)) → length gs ≤ H .count → Stand D (asLeaf (length gs)) 0 gs → Level D H (length gs) 0 0 gs
 unfolding leaves

@@ -8,17 +8,18 @@ use Prim.Native.Nat.{ℕ, zero, suc, _+_, _-_, _^_, _<_}
 use native.Mathlib.Omega.{arith}
 use lib.ListN.{length, getD}
 use native.Mathlib.Decide.{decLe}
-use borrow.Author.Tests.{eq-eqb}
 use Rattle.fields.specs.Part.{part}
 use Rattle.fields.proofs.Parts.{part-inside, part-within}
+use Rattle.fields.proofs.Tests.{never}
 use Rattle.encint.specs.Encint.{encoded}
-use Rattle.chunk.specs.Chunk.{Entry, Parsed, faultOf, isKind, entriesIn, spacingOf}
+use Rattle.entries.specs.declared.Kind.the-variants.{Listing}
+use Rattle.chunk.specs.Chunk.{Entry, Parsed, bad, listing, index, isGood, isKind, entriesIn, spacingOf, headOf}
 use Rattle.chunk.proofs.Accepted.{accepted}
 use Rattle.header.specs.declared.Record.{Record}
 use Rattle.book.specs.Book.{limitsOf, chunkPlace, chunkBytes, directoryOf, reportOf}
 use Rattle.book.specs.declared.Report.{Report}
 use Rattle.book.proofs.Laws.{chunk-inside}
-use Rattle.opening.specs.Opened.{chunksThen, linkedBook, opened}
+use Rattle.opening.specs.Opened.{chunkThen, chunksThen, linkedBook, opened}
 use Rattle.opening.specs.declared.Opened.{Opened}
 use Rattle.opening.specs.declared.Opened.the-variants.{Book}
 use Rattle.listing.specs.Listing.{reportsIn}
@@ -37,14 +38,19 @@ use Rattle.roundtrip.proofs.Linking.{Links, links}
 use Rattle.roundtrip.proofs.Meant.{head-good, means}
 use Rattle.roundtrip.proofs.Names.{There, names-there}
 
--- ---- opening: no chunk is at fault
+-- ---- opening: no chunk is bad
 
-no-fault : (D : ℕ → Parsed) (r : Opened) (n c : ℕ) → ((i : ℕ) → i < n → faultOf (D (c + i)) ≡ 0) → chunksThen D n c r ≡ r
+then-good : (p : Parsed) (c : ℕ) (r : Opened) → isGood p ≡ true → chunkThen p c r ≡ r
+then-good (bad n) c r h = never h
+then-good (listing prev next es) c r h = refl
+then-good (index es) c r h = refl
+
+all-good : (D : ℕ → Parsed) (r : Opened) (n c : ℕ) → ((i : ℕ) → i < n → isGood (D (c + i)) ≡ true) → chunksThen D n c r ≡ r
 unfolding chunksThen
-no-fault D r zero c h = refl
-no-fault D r (suc n) c h =
-    let z : faultOf (D c) ≡ 0 = subst (λ (x : ℕ). faultOf (D x) ≡ 0) (omega arith) (h 0 (omega arith)) in
-    rw (eq-eqb (faultOf (D c)) 0 z) (no-fault D r n (c + 1) (λ i k. subst (λ (x : ℕ). faultOf (D x) ≡ 0) (omega arith) (h (i + 1) (omega arith))))
+all-good D r zero c h = refl
+all-good D r (suc n) c h =
+    then-good (D c) c _ (subst (λ (x : ℕ). isGood (D x) ≡ true) (omega arith) (h 0 (omega arith)))
+    ∙ all-good D r n (c + 1) (λ i k. subst (λ (x : ℕ). isGood (D x) ≡ true) (omega arith) (h (i + 1) (omega arith)))
 
 -- ---- listing: what the reports of a chunk tell
 
@@ -58,8 +64,8 @@ module _ (s : List ℕ) (book : Record) (c : ℕ) (whole : length (chunkBytes s 
       ∙ ap (λ (x : List ℕ). part x (e .start) (length (e .name))) (sym (part-inside s (chunkPlace book c) 4096 i))
       ∙ t .bytes
 
-  told-all : (content at : ℕ) (g : List Stored) → All (Kept content) g → All (There (chunkBytes s book c)) (placedFrom true at g)
-      → map (toldOf s) (map (reportOf book c) (placedFrom true at g)) ≡ g
+  told-all : (content at : ℕ) (g : List Stored) → All (Kept content) g → All (There (chunkBytes s book c)) (placedFrom Listing at g)
+      → map (toldOf s) (map (reportOf book c) (placedFrom Listing at g)) ≡ g
   unfolding placedFrom reportOf
   told-all content at [] none none = refl
   told-all content at (e ∷ g) (more k ks) (more t ts) =
@@ -72,12 +78,12 @@ module _ (s : List ℕ) (book : Record) (c : ℕ) (whole : length (chunkBytes s 
         offset = e .offset;
         size = e .size;
         child = e .child;
-        next = at + entrySize true e;
+        next = at + entrySize Listing e;
       } in
       let head : toldOf s (reportOf book c x) ≡ e =
       ap₂ (λ (name : List ℕ) (child : ℕ). let r : Stored = record { name = name; section = e .section; offset = e .offset; size = e .size; child = child } in r)
       (name-there x t) (sym (k .childless)) in
-      ap₂ (λ (y : Stored) (ys : List Stored). y ∷ ys) head (told-all content (at + entrySize true e) g ks ts)
+      ap₂ (λ (y : Stored) (ys : List Stored). y ∷ ys) head (told-all content (at + entrySize Listing e) g ks ts)
 
 -- reports of chunk after chunk
 told-chunks : (f : ℕ → List Report) (t : Report → Stored) (c : ℕ) (gs : List (List Stored)) → ((i : ℕ) → i < length gs → map t (f (c + i)) ≡ getD gs i [])
@@ -114,30 +120,29 @@ module _ (density time language : ℕ) (es : List Stored) (gs : List (List Store
   linked =
       links D (spacingOf density) gs (cut-some density (length content) es gs cut) (cut-ordered density (length content) es gs cut) small meant
 
-  faultless : (c : ℕ) → c < chunkCount l → faultOf (D c) ≡ 0
-  unfolding faultOf
-  faultless c h =
+  good : (c : ℕ) → c < chunkCount l → isGood (D c) ≡ true
+  good c h =
       elim (decLe m c) [
-        | yes k ↦ subst (λ (x : ℕ). faultOf (D x) ≡ 0) (omega arith) (ap faultOf (meant .node (c - m) (omega arith)))
-        | no k ↦ ap faultOf (meant .leaf c (omega arith))
+        | yes k ↦ subst (λ (x : ℕ). isGood (D x) ≡ true) (omega arith) (ap isGood (meant .node (c - m) (omega arith)))
+        | no k ↦ ap isGood (meant .leaf c (omega arith))
       ]
 
   opens : opened file ≡ Book book
   unfolding opened linkedBook recordFor
   opens =
       rw (head-good density time language es gs content t g cut small)
-      (no-fault D (linkedBook file book) (chunkCount l) 0 (λ i k. subst (λ (x : ℕ). faultOf (D x) ≡ 0) (omega arith) (faultless i k)) ∙ rw (linked .chain-passes, linked .tree-passes) refl)
+      (all-good D (linkedBook file book) (chunkCount l) 0 (λ i k. subst (λ (x : ℕ). isGood (D x) ≡ true) (omega arith) (good i k)) ∙ rw (linked .chain-passes, linked .tree-passes) refl)
 
   -- the reports of listing chunk c
   told : (c : ℕ) → c < length gs → map (toldOf file) (reportsIn file book c) ≡ getD gs c []
   unfolding directoryOf layoutOver
   told c h =
       let e = meant .leaf c h in
-      let a = accepted (limitsOf file book) true (chunkBytes file book c) (ap (isKind true) e) in
+      let a = accepted (limitsOf file book) Listing (chunkBytes file book c) (ap (isKind Listing) e) in
       let there = names-there (limitsOf file book) (chunkBytes file book c) _ _ _ _ (a .entries) in
       let kept = all-at [] gs c (cut-kept density (length content) es gs cut) h in
       ap (λ (p : Parsed). map (toldOf file) (map (reportOf book c) (entriesIn p))) e
-      ∙ told-all file book c (a .size) (length content) 20 (getD gs c []) kept (subst (λ (p : Parsed). All (There (chunkBytes file book c)) (entriesIn p)) e there)
+      ∙ told-all file book c (a .size) (length content) (headOf Listing) (getD gs c []) kept (subst (λ (p : Parsed). All (There (chunkBytes file book c)) (entriesIn p)) e there)
 
   lists : map (toldOf file) (wholeListing file book) ≡ es
   unfolding wholeListing layoutOver recordFor

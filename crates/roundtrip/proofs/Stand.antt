@@ -1,12 +1,14 @@
 -- Chunks that stand one behind another in a directory, each for a list of entries, and the first and the last name of a chunk.
 -- Assumes nothing.
 use mathlib.Core.Path.{_≡_, refl, subst}
-use mathlib.Core.Bool.{Bool, true, false}
+use mathlib.Core.Bool.{true}
 use mathlib.Core.List.{List, [], _∷_, _++_}
 use Prim.Native.Nat.{ℕ, suc, _+_, _<_}
 use native.Mathlib.Omega.{arith}
 use lib.ListN.{length, getD}
 use Rattle.names.specs.Names.{below}
+use Rattle.entries.specs.declared.Kind.{Kind}
+use Rattle.entries.specs.declared.Kind.the-variants.{Listing, Index}
 use Rattle.chunk.specs.Chunk.{Parsed}
 use Rattle.seek.specs.Seek.{Sought, absent, found, nth, nameIn, final}
 use Rattle.entries.proofs.Rising.{rising-more}
@@ -18,10 +20,10 @@ use Rattle.layout.specs.Layout.{prevOf, nextOf}
 
 -- what the entries of chunk c mean: in one of m listing chunks, and in an index chunk
 abbrev pub asLeaf : ℕ → ℕ → List Stored → Parsed
-asLeaf m c g = newParsed true (prevOf c) (nextOf m c) g
+asLeaf m c g = newParsed Listing (prevOf c) (nextOf m c) g
 
 abbrev pub asNode : ℕ → List Stored → Parsed
-asNode c g = newParsed false 0 0 g
+asNode c g = newParsed Index 0 0 g
 
 module _ (D : ℕ → Parsed) (f : ℕ → List Stored → Parsed) where
   -- the chunks from number c on are these, one behind another
@@ -46,7 +48,7 @@ module _ (D : ℕ → Parsed) (f : ℕ → List Stored → Parsed) where
 
 -- ---- names
 
-module _ (k : Bool) where
+module _ (k : Kind) where
   pub placed-first : (at : ℕ) (g : List Stored) → nameIn (nth 0 (placedFrom k at g)) ≡ firstName g
   unfolding placedFrom nth firstName
   placed-first at [] = refl

@@ -13,6 +13,8 @@ use Rattle.entries.specs.declared.Place.{Place}
 use Rattle.entries.specs.declared.Item.{Item}
 use Rattle.entries.specs.declared.Item.the-variants.{Good, Bad}
 use Rattle.entries.proofs.Laws.{bad-no-good, onItem, number-passed, test-passed, item-passed, name-next, listing-inside}
+use Rattle.entries.specs.declared.Kind.{Kind}
+use Rattle.entries.specs.declared.Kind.the-variants.{Listing, Index}
 use Rattle.source.specs.Source.{childAt, itemFrom, takenOf, run, endOf, rowsFrom}
 use Rattle.fields.proofs.Lists.{All, none, more}
 
@@ -38,10 +40,10 @@ child-row s starts c e q =
     let x : Place = record { at = getD starts c 0; start = n .1; len = n .0; section = 0; offset = 0; size = 0; child = c; next = c + 1 } in
     subst (Row s) (item-passed true x e (n .3) .1) (named-row s x (n .2))
 
-pub row-of : (content : ℕ) (s starts : List ℕ) (k : Bool) (at : ℕ) (e : Place) → itemFrom content s starts k at ≡ Good e → Row s e
+pub row-of : (content : ℕ) (s starts : List ℕ) (k : Kind) (at : ℕ) (e : Place) → itemFrom content s starts k at ≡ Good e → Row s e
 unfolding itemFrom
-row-of content s starts true at e q = let i = listing-inside content s at e q in named-row s e (rw (← i .same) at (i .read))
-row-of content s starts false at e q = child-row s starts at e q
+row-of content s starts Listing at e q = let i = listing-inside content s at e q in named-row s e (rw (← i .same) at (i .read))
+row-of content s starts Index at e q = child-row s starts at e q
 
 -- ---- a step, where `left` more may be taken
 
@@ -107,5 +109,5 @@ module _ (item : ℕ → Item) where
       (λ q. subst (All P) (sym (run-none (suc left) at q)) none)
       (λ e q. let z : e ∷ run item left (e .next) ≡ run item (suc left) at = rw q in subst (All P) z (more (f at e q) (run-all P f left (e .next))))
 
-pub rows-all : (content : ℕ) (s starts : List ℕ) (k : Bool) (left at : ℕ) → All (Row s) (rowsFrom content s starts k left at)
+pub rows-all : (content : ℕ) (s starts : List ℕ) (k : Kind) (left at : ℕ) → All (Row s) (rowsFrom content s starts k left at)
 rows-all content s starts k left at = run-all (itemFrom content s starts k) (Row s) (row-of content s starts k) left at

@@ -12,6 +12,7 @@ use Rattle.fields.proofs.Tests.{and-both}
 use Rattle.entries.specs.Entry.{listingAt}
 use Rattle.entries.proofs.Laws.{onItem}
 use Rattle.entries.proofs.Padded.{entry-ahead}
+use Rattle.entries.specs.declared.Kind.the-variants.{Listing}
 use Rattle.entries.specs.Rising.{rising}
 use Rattle.entries.specs.Stored.{storedOf, entryBytes, unpadded, storedName}
 use Rattle.source.specs.Source.{run, endOf}
@@ -23,7 +24,7 @@ module _ (s : List ℕ) (bytes : (i : ℕ) → getD s i 0 < 256) (content : ℕ)
 
   -- the entries from a place on, where they end with the input
   run-bytes : (left at : ℕ) → endOf at (run (listingAt content s) left at) ≡ length s → allUnpadded s (run (listingAt content s) left at) ≡ true
-      → drop at s ≡ flatMap (entryBytes true) (map (storedOf s) (run (listingAt content s) left at))
+      → drop at s ≡ flatMap (entryBytes Listing) (map (storedOf s) (run (listingAt content s) left at))
   unfolding run endOf allUnpadded flatMap
   run-bytes zero at h u = none-behind at h
   run-bytes (suc left) at h u =
@@ -34,10 +35,10 @@ module _ (s : List ℕ) (bytes : (i : ℕ) → getD s i 0 < 256) (content : ℕ)
       let v : (unpadded s e && allUnpadded s es) ≡ true = rw q at u in
       let k : endOf (e .next) es ≡ length s = rw q at h in
       let w = and-both (unpadded s e) (allUnpadded s es) v in
-      rw q (entry-ahead s bytes content at e q (w .0) ∙ ap (λ (b : List ℕ). entryBytes true (storedOf s e) ++ b) (run-bytes left (e .next) k (w .1))))
+      rw q (entry-ahead s bytes content at e q (w .0) ∙ ap (λ (b : List ℕ). entryBytes Listing (storedOf s e) ++ b) (run-bytes left (e .next) k (w .1))))
 
   -- an input that the writer takes
-  pub input-bytes : inputRight content s ≡ true → s ≡ flatMap (entryBytes true) (given content s)
+  pub input-bytes : inputRight content s ≡ true → s ≡ flatMap (entryBytes Listing) (given content s)
   unfolding inputRight given
   input-bytes h =
       let es = placesOf content s in

@@ -2,7 +2,7 @@
 -- for each chunk of the level below, by number, with the first name of that chunk (FORMAT W11, T4).
 -- Assumes nothing.
 use Prim.Native.Nat.{ℕ, zero, suc, _+_}
-use mathlib.Core.Bool.{Bool, true, false, cond}
+use mathlib.Core.Bool.{cond}
 use mathlib.Core.List.{List, [], _∷_}
 use lib.ListN.{length, getD}
 use lib.Dec.{ltb}
@@ -10,6 +10,8 @@ use Rattle.entries.specs.Entry.{withNumber, nameAt, listingAt, withItem}
 use Rattle.entries.specs.declared.Place.{Place}
 use Rattle.entries.specs.declared.Item.{Item}
 use Rattle.entries.specs.declared.Item.the-variants.{Good}
+use Rattle.entries.specs.declared.Kind.{Kind}
+use Rattle.entries.specs.declared.Kind.the-variants.{Listing, Index}
 
 -- the entry for chunk c, whose first name has its entry in the input s at place c of `starts`
 unfoldable pub childAt : List ℕ → List ℕ → ℕ → Item
@@ -19,10 +21,10 @@ childAt s starts c =
     Good (record { at = getD starts c 0; start = start; len = len; section = 0; offset = 0; size = 0; child = c; next = c + 1 })))
     Item.Bad
 
--- the entry at a cursor of a listing level (true) or of an index level
-unfoldable pub itemFrom : ℕ → List ℕ → List ℕ → Bool → ℕ → Item
-itemFrom content s starts true at = listingAt content s at
-itemFrom content s starts false at = childAt s starts at
+-- the entry at a cursor of a level of a kind
+unfoldable pub itemFrom : ℕ → List ℕ → List ℕ → Kind → ℕ → Item
+itemFrom content s starts Listing at = listingAt content s at
+itemFrom content s starts Index at = childAt s starts at
 
 -- what a step hands out of it, where `left` more may be taken
 unfoldable pub takenOf : ℕ → Item → Item
@@ -40,5 +42,5 @@ endOf at [] = at
 endOf at (e ∷ es) = endOf (e .next) es
 
 -- those of a level
-abbrev pub rowsFrom : ℕ → List ℕ → List ℕ → Bool → ℕ → ℕ → List Place
+abbrev pub rowsFrom : ℕ → List ℕ → List ℕ → Kind → ℕ → ℕ → List Place
 rowsFrom content s starts k left at = run (itemFrom content s starts k) left at

@@ -3,12 +3,13 @@ ghost use mathlib.Core.Path.{_≡_};
 ghost use Rattle.source.specs.Source.{childAt, itemFrom, takenOf};
 use encint::Number;
 use entries::Item;
+use entries::Kind;
 use entries::Place;
 
 // How far the entries of a level are taken, and how many more may be. A listing level takes them from the input: `at` is the place of the next one.
 // An index level has one for each chunk so far: `at` is the number of the next chunk.
 pub struct Cursor {
-    pub listing: bool,
+    pub kind: Kind,
     pub at: usize,
     pub left: usize,
 }
@@ -38,13 +39,14 @@ fn child_at(input: &[u8], starts: &[usize], c: usize) -> Item
 
 // The entry at a cursor. It is bad where no more may be taken, or no good entry stands there.
 pub fn step(input: &[u8], starts: &[usize], content: u64, from: Cursor) -> Item
-    ensures { λ r. ⌜ r ≡ takenOf (from .left) (itemFrom content (now (input .entry)) (now (starts .entry)) (from .listing) (from .at)) ⌝ }
+    ensures { λ r. ⌜ r ≡ takenOf (from .left) (itemFrom content (now (input .entry)) (now (starts .entry)) (from .kind) (from .at)) ⌝ }
 {
     if from.left == 0 {
         return Item::Bad;
     }
-    if from.listing {
-        return entries::listing_at(input, from.at, content);
+    let kind = from.kind;
+    match kind {
+        Kind::Listing => entries::listing_at(input, from.at, content),
+        Kind::Index => child_at(input, starts, from.at),
     }
-    child_at(input, starts, from.at)
 }

@@ -11,6 +11,7 @@ use lib.Dec.{ltb, leb}
 use borrow.Author.Tests.{le-leb, lt-leb, leb-true}
 use Rattle.fields.proofs.Put.{sets-parts}
 use Rattle.fields.proofs.Tests.{and-both, and-no}
+use Rattle.entries.specs.declared.Kind.the-variants.{Listing, Index}
 use Rattle.refusals.specs.Refusals.{refusalOf}
 use Rattle.chunk.specs.Chunk.{spacingOf}
 use Rattle.entries.specs.Stored.{Stored, storedOf}
@@ -45,16 +46,16 @@ length-headers density time language content m depth count =
     omega (arith, length-append a (b ++ d), length-append b d, length-file time language count, length-section (headLength count + content), length-directory language density depth (rootOf depth count) (m - 1) count)
 
 -- the listing chunks that are written are those of the input's layout
-pub leaves-are : (content : ℕ) (s : List ℕ) (n : ℕ) → map (map (storedOf s)) (chunksFrom content s [] true n (length s) 0) ≡ layoutOf n (given content s) .leaves
+pub leaves-are : (content : ℕ) (s : List ℕ) (n : ℕ) → map (map (storedOf s)) (chunksFrom content s [] Listing n (length s) 0) ≡ layoutOf n (given content s) .leaves
 unfolding layoutOver
 leaves-are content s n = chunks-given content s [] n
 
 module _ (content : ℕ) (s starts : List ℕ) (n : ℕ) (l : Layout) (m depth count room : ℕ) (r : Ready s starts l m depth count room)
-    (leaves-is : map (map (storedOf s)) (chunksFrom content s (take 0 starts) true n (length s) 0) ≡ l .leaves) where
-  leaves-count : length (chunksFrom content s (take 0 starts) true n (length s) 0) ≡ m
-  leaves-count = sym (length-map (chunksFrom content s (take 0 starts) true n (length s) 0) (map (storedOf s))) ∙ ap length leaves-is ∙ sym (r .made .listings)
+    (leaves-is : map (map (storedOf s)) (chunksFrom content s (take 0 starts) Listing n (length s) 0) ≡ l .leaves) where
+  leaves-count : length (chunksFrom content s (take 0 starts) Listing n (length s) 0) ≡ m
+  leaves-count = sym (length-map (chunksFrom content s (take 0 starts) Listing n (length s) 0) (map (storedOf s))) ∙ ap length leaves-is ∙ sym (r .made .listings)
 
-  pub ready-level : LevelFits content s starts true n (length s) 0 0 room
+  pub ready-level : LevelFits content s starts Listing n (length s) 0 0 room
   ready-level =
       let w = r .made in
       record {
@@ -77,29 +78,29 @@ module _ (content : ℕ) (s starts : List ℕ) (n : ℕ) (l : Layout) (m depth c
 
   pub head-written : (density time language : ℕ) → n ≡ spacingOf density → (o₀ o₁ o₂ o₃ : List ℕ)
       → o₁ ≡ sets o₀ 0 (headersOf density time language content m depth count)
-      → o₂ ≡ sets o₁ (204 + 4096 * 0) (flatten (chunksOf true n m 0 (map (map (storedOf s)) (chunksFrom content s (take 0 starts) true n (length s) 0))))
+      → o₂ ≡ sets o₁ (204 + 4096 * 0) (flatten (chunksOf Listing n m 0 (map (map (storedOf s)) (chunksFrom content s (take 0 starts) Listing n (length s) 0))))
       → o₃ ≡ sets o₂ (204 + 4096 * m) (flatten (indexOf n m l))
       → o₃ ≡ sets o₀ 0 (headBytes density time language content l)
   unfolding headBytes headersOf chunkList
   head-written density time language ns o₀ o₁ o₂ o₃ w₁ w₂ w₃ =
       let w = r .made in
       let H = headersOf density time language content m depth count in
-      let A = flatten (chunksOf true n m 0 (map (map (storedOf s)) (chunksFrom content s (take 0 starts) true n (length s) 0))) in
+      let A = flatten (chunksOf Listing n m 0 (map (map (storedOf s)) (chunksFrom content s (take 0 starts) Listing n (length s) 0))) in
       let B = flatten (indexOf n m l) in
       let lH = length-headers density time language content m depth count in
-      let lA : length A ≡ 4096 * m = length-level true n m s content (take 0 starts) (length s) 0 0 ∙ ap (λ (j : ℕ). 4096 * j) leaves-count in
+      let lA : length A ≡ 4096 * m = length-level Listing n m s content (take 0 starts) (length s) 0 0 ∙ ap (λ (j : ℕ). 4096 * j) leaves-count in
       let x = fileHeader time language count in
       let y = sectionZero (headLength count + content) in
       let z = directoryHeader language density depth (rootOf depth count) (m - 1) count in
       let F : ℕ → ℕ → ℕ → ℕ → List (List ℕ) → List ℕ =
       λ m d c k cs. fileHeader time language c ++ (sectionZero (headLength c + content) ++ (directoryHeader language density d (rootOf d c) (m - 1) c ++ flatten cs)) in
-      let C : ℕ → ℕ → List (List ℕ) = λ j i. chunksOf true j i 0 (l .leaves) ++ chunksOf false j i i (flatten (l .levels)) in
+      let C : ℕ → ℕ → List (List ℕ) = λ j i. chunksOf Listing j i 0 (l .leaves) ++ chunksOf Index j i i (flatten (l .levels)) in
       three o₀ o₁ o₂ o₃ 0 (204 + 4096 * 0) (204 + 4096 * m) H A B w₁ (omega arith) w₂ (omega arith) w₃
       ∙ ap (sets o₀ 0)
       (append-assoc x (y ++ z) (A ++ B)
       ∙ ap (λ (t : List ℕ). x ++ t) (append-assoc y z (A ++ B))
-      ∙ ap (λ (t : List (List Stored)). x ++ (y ++ (z ++ (flatten (chunksOf true n m 0 t) ++ B)))) leaves-is
-      ∙ ap (λ (t : List ℕ). x ++ (y ++ (z ++ t))) (sym (flatten-append (chunksOf true n m 0 (l .leaves)) (indexOf n m l)))
+      ∙ ap (λ (t : List (List Stored)). x ++ (y ++ (z ++ (flatten (chunksOf Listing n m 0 t) ++ B)))) leaves-is
+      ∙ ap (λ (t : List ℕ). x ++ (y ++ (z ++ t))) (sym (flatten-append (chunksOf Listing n m 0 (l .leaves)) (indexOf n m l)))
       ∙ ap (λ (t : ℕ). F m depth count 0 (C t m)) ns
       ∙ ap (λ (t : ℕ). F t depth count 0 (C (spacingOf density) t)) (w .listings)
       ∙ ap (λ (t : ℕ). F (length (l .leaves)) t count 0 (C (spacingOf density) (length (l .leaves)))) (w .deep)
@@ -168,7 +169,7 @@ module _ (s : List ℕ) (density time language content : ℕ) (out : List ℕ) w
         let front : take (headLength count) o ≡ head = ap (take (headLength count)) w ∙ take-at head (drop (headLength count) out) (headLength count) lh in
         let l = layoutFor density content s in
         let es = given content s in
-        let gs = level (spacingOf density) true es in
+        let gs = level (spacingOf density) Listing es in
         let file : newBook density time language l rest ≡ take (headLength count) o ++ rest =
         ap (λ (n : ℕ). headBytes density time language n l ++ rest) e ∙ ap (λ (x : List ℕ). x ++ rest) (sym front) in
         let cut : Cut density (length rest) es gs = subst (λ (n : ℕ). Cut density n es gs) (sym e) (takes-told density content s h) in

@@ -2,7 +2,6 @@
 -- numbered from base up to end.
 -- Assumes nothing.
 use mathlib.Core.Path.{_≡_, refl, sym, ap, subst, _∙_}
-use mathlib.Core.Bool.{false}
 use mathlib.Core.List.{List, [], _∷_, _++_, map, flatten}
 use Prim.Native.Nat.{ℕ, _+_, _-_, _*_, _≤_, _<_}
 use native.Mathlib.Omega.{arith}
@@ -10,6 +9,7 @@ use lib.ListN.{length, take}
 use lib.Seq.{sets}
 use Rattle.fields.specs.Part.{part}
 use Rattle.fields.proofs.Put.{sets-after}
+use Rattle.entries.specs.declared.Kind.the-variants.{Index}
 use Rattle.entries.specs.Stored.{Stored, storedOf}
 use Rattle.pack.specs.Groups.{fits}
 use Rattle.pack.specs.Levels.{entrySize, level, childrenOf, levelsAbove}
@@ -42,7 +42,7 @@ module _ (content : ℕ) (s starts : List ℕ) (n m : ℕ) (leaves : List (List 
     pub count : end + length (flatten (levelsAbove n (6 - depth) base gs)) ≡ chunkCount l
     pub deep : depth + length (levelsAbove n (6 - depth) base gs) ≤ 5
     pub whole :
-        sets out (204 + 4096 * end) (flatten (chunksOf false n m end (flatten (levelsAbove n (6 - depth) base gs))))
+        sets out (204 + 4096 * end) (flatten (chunksOf Index n m end (flatten (levelsAbove n (6 - depth) base gs))))
         ≡ sets out₀ (204 + 4096 * m) (flatten (indexOf n m l))
 
   pub indexing-start : IndexFits s starts l m (length out₀) → 0 < m → Indexing out₀ 0 m
@@ -66,7 +66,7 @@ module _ (content : ℕ) (s starts : List ℕ) (n m : ℕ) (leaves : List (List 
     unfolding flatten chunksOf
     indexing-end h =
         let z : levelsAbove n (6 - p .depth) base (p .gs) ≡ [] = above-none n (6 - p .depth) base (p .gs) (omega (arith, p .size)) in
-        ap (λ (l : List (List (List Stored))). sets out (204 + 4096 * end) (flatten (chunksOf false n m end (flatten l)))) (sym z) ∙ p .whole
+        ap (λ (l : List (List (List Stored))). sets out (204 + 4096 * end) (flatten (chunksOf Index n m end (flatten l)))) (sym z) ∙ p .whole
 
     module _ (more : 1 < end - base) where
       abbrev up : List (List Stored)
@@ -90,10 +90,10 @@ module _ (content : ℕ) (s starts : List ℕ) (n m : ℕ) (leaves : List (List 
       in-starts : end ≤ length starts
       in-starts = omega (arith, p .count, f .small, f .known)
 
-      up-count : length (chunksFrom content s (take end starts) false n (end - base) base) ≡ length up
+      up-count : length (chunksFrom content s (take end starts) Index n (end - base) base) ≡ length up
       up-count = upper-count content s n starts base end (p .gs) (p .size) in-starts named-here
 
-      pub indexing-room : LevelFits content s starts false n (end - base) base end (length out)
+      pub indexing-room : LevelFits content s starts Index n (end - base) base end (length out)
       indexing-room =
           record {
             known = in-starts;
@@ -102,31 +102,31 @@ module _ (content : ℕ) (s starts : List ℕ) (n m : ℕ) (leaves : List (List 
           }
 
       -- the level has a chunk
-      pub indexing-some : (next : ℕ) → next ≡ end + length (chunksFrom content s (take end starts) false n (end - base) base) → (end < next) × (next ≤ 4096)
+      pub indexing-some : (next : ℕ) → next ≡ end + length (chunksFrom content s (take end starts) Index n (end - base) base) → (end < next) × (next ≤ 4096)
       indexing-some next e =
-          let g = groups-some (entrySize false) (fits false n) (childrenOf base (p .gs)) (omega (arith, length-children base (p .gs), p .some)) in
+          let g = groups-some (entrySize Index) (fits Index n) (childrenOf base (p .gs)) (omega (arith, length-children base (p .gs), p .some)) in
           (omega (arith, up-count), omega (arith, up-count, count-above, p .count, f .small))
 
-      pub indexing-turn : (after : List ℕ) (next : ℕ) → length after ≡ length out → next ≡ end + length (chunksFrom content s (take end starts) false n (end - base) base)
-          → after ≡ sets out (204 + 4096 * end) (flatten (chunksOf false n m end (map (map (storedOf s)) (chunksFrom content s (take end starts) false n (end - base) base))))
+      pub indexing-turn : (after : List ℕ) (next : ℕ) → length after ≡ length out → next ≡ end + length (chunksFrom content s (take end starts) Index n (end - base) base)
+          → after ≡ sets out (204 + 4096 * end) (flatten (chunksOf Index n m end (map (map (storedOf s)) (chunksFrom content s (take end starts) Index n (end - base) base))))
           → Indexing after end next
       unfolding flatten
       indexing-turn after next l e w =
-          let L = chunksFrom content s (take end starts) false n (end - base) base in
+          let L = chunksFrom content s (take end starts) Index n (end - base) base in
           let ui = upper-is content s n starts base end (p .gs) (p .size) in-starts named-here in
           let uc = up-count in
-          let g = groups-some (entrySize false) (fits false n) (childrenOf base (p .gs)) (omega (arith, length-children base (p .gs), p .some)) in
+          let g = groups-some (entrySize Index) (fits Index n) (childrenOf base (p .gs)) (omega (arith, length-children base (p .gs), p .some)) in
           let sz : end + length up ≡ next = omega arith in
-          let here = flatten (chunksOf false n m end up) in
+          let here = flatten (chunksOf Index n m end up) in
           let lh : length here ≡ 4096 * length up =
-          ap (λ (y : List (List Stored)). length (flatten (chunksOf false n m end y))) (sym ui) ∙ length-level false n m s content (take end starts) (end - base) base end ∙ ap (λ (j : ℕ). 4096 * j) uc in
-          let there = flatten (chunksOf false n m next (flatten others)) in
+          ap (λ (y : List (List Stored)). length (flatten (chunksOf Index n m end y))) (sym ui) ∙ length-level Index n m s content (take end starts) (end - base) base end ∙ ap (λ (j : ℕ). 4096 * j) uc in
+          let there = flatten (chunksOf Index n m next (flatten others)) in
           let place : 204 + 4096 * next ≡ 204 + 4096 * end + length here = omega arith in
-          let both : here ++ there ≡ flatten (chunksOf false n m end (flatten (levelsAbove n (6 - p .depth) base (p .gs)))) =
-          sym (ap (λ (y : List (List (List Stored))). flatten (chunksOf false n m end (flatten y))) level-above
-          ∙ ap flatten (chunks-append false n m end up (flatten others))
-          ∙ flatten-append (chunksOf false n m end up) (chunksOf false n m (end + length up) (flatten others))
-          ∙ ap (λ (j : ℕ). here ++ flatten (chunksOf false n m j (flatten others))) sz) in
+          let both : here ++ there ≡ flatten (chunksOf Index n m end (flatten (levelsAbove n (6 - p .depth) base (p .gs)))) =
+          sym (ap (λ (y : List (List (List Stored))). flatten (chunksOf Index n m end (flatten y))) level-above
+          ∙ ap flatten (chunks-append Index n m end up (flatten others))
+          ∙ flatten-append (chunksOf Index n m end up) (chunksOf Index n m (end + length up) (flatten others))
+          ∙ ap (λ (j : ℕ). here ++ flatten (chunksOf Index n m j (flatten others))) sz) in
           record {
             gs = up;
             depth = p .depth + 1;
@@ -139,7 +139,7 @@ module _ (content : ℕ) (s starts : List ℕ) (n m : ℕ) (leaves : List (List 
             count = omega (arith, count-above, p .count);
             deep = omega (arith, ap length level-above, p .deep);
             whole =
-                ap (λ (o : List ℕ). sets o (204 + 4096 * next) there) (w ∙ ap (λ (y : List (List Stored)). sets out (204 + 4096 * end) (flatten (chunksOf false n m end y))) ui)
+                ap (λ (o : List ℕ). sets o (204 + 4096 * next) there) (w ∙ ap (λ (y : List (List Stored)). sets out (204 + 4096 * end) (flatten (chunksOf Index n m end y))) ui)
                 ∙ ap (λ (j : ℕ). sets (sets out (204 + 4096 * end) here) j there) place
                 ∙ sets-after out (204 + 4096 * end) here there
                 ∙ ap (sets out (204 + 4096 * end)) both

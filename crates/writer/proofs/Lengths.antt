@@ -1,7 +1,6 @@
 -- Chunks one behind another: each is 4,096 bytes long, and those of several levels are those of one behind another.
 -- Assumes nothing.
 use mathlib.Core.Path.{_≡_, sym, ap, _∙_}
-use mathlib.Core.Bool.{Bool}
 use mathlib.Core.List.{List, [], _∷_, _++_, map, flatten}
 use Prim.Native.Nat.{ℕ, _+_, _*_, _≤_}
 use native.Mathlib.Nat.{add-zero}
@@ -10,6 +9,7 @@ use lib.ListN.{length, length-map}
 use Rattle.fields.specs.Part.{part}
 use Rattle.fields.proofs.Parts.{length-part}
 use Rattle.entries.specs.declared.Place.{Place}
+use Rattle.entries.specs.declared.Kind.{Kind}
 use Rattle.entries.specs.Stored.{Stored, storedOf}
 use Rattle.source.specs.Source.{rowsFrom}
 use Rattle.fields.proofs.Lists.{All, none, more}
@@ -22,7 +22,7 @@ use Rattle.compose.specs.NewChunk.{newChunk}
 use Rattle.layout.specs.Layout.{prevOf, nextOf, chunksOf}
 use Rattle.layout.proofs.Filled.{length-all}
 
-pub chunks-append : (k : Bool) (n m c : ℕ) (a b : List (List Stored)) → chunksOf k n m c (a ++ b) ≡ chunksOf k n m c a ++ chunksOf k n m (c + length a) b
+pub chunks-append : (k : Kind) (n m c : ℕ) (a b : List (List Stored)) → chunksOf k n m c (a ++ b) ≡ chunksOf k n m c a ++ chunksOf k n m (c + length a) b
 unfolding chunksOf
 chunks-append k n m c [] b = ap (λ (j : ℕ). chunksOf k n m j b) (sym (add-zero c))
 chunks-append k n m c (g ∷ a) b =
@@ -36,7 +36,7 @@ rows-short s (e ∷ es) (more r rs) =
     let h : length (part s (e .start) (e .len)) ≤ 1024 = omega (arith, r .short) in
     more h (rows-short s es rs)
 
-module _ (k : Bool) (n m : ℕ) where
+module _ (k : Kind) (n m : ℕ) where
   -- those of a level, from a cursor on
   pub length-level : (s : List ℕ) (content : ℕ) (starts : List ℕ) (left at c : ℕ)
       → length (flatten (chunksOf k n m c (map (map (storedOf s)) (chunksFrom content s starts k n left at)))) ≡ 4096 * length (chunksFrom content s starts k n left at)

@@ -2,7 +2,6 @@
 -- `left` that may be taken, and chunk j comes next; at first it was at `base` with `all`.
 -- Assumes nothing.
 use mathlib.Core.Path.{_≡_, refl, sym, ap, _∙_}
-use mathlib.Core.Bool.{Bool}
 use mathlib.Core.List.{List, [], map, flatten}
 use Prim.Native.Nat.{ℕ, _+_, _*_, _≤_, _<_}
 use native.Mathlib.Omega.{arith}
@@ -11,6 +10,7 @@ use lib.Seq.{sets}
 use Rattle.fields.proofs.Put.{sets-after}
 use Rattle.entries.specs.declared.Place.{Place}
 use Rattle.entries.specs.declared.Item.the-variants.{Good}
+use Rattle.entries.specs.declared.Kind.{Kind}
 use Rattle.entries.specs.Stored.{storedOf}
 use Rattle.source.specs.Source.{itemFrom, rowsFrom}
 use Rattle.pack.specs.Fill.{extentFrom}
@@ -23,7 +23,7 @@ use Rattle.compose.proofs.Whole.{length-extent}
 use Rattle.layout.specs.Layout.{prevOf, nextOf, chunksOf}
 use Rattle.writer.specs.Plan.{LevelFits}
 
-module _ (content : ℕ) (s starts : List ℕ) (k : Bool) (n m all base end : ℕ) (out₀ : List ℕ) where
+module _ (content : ℕ) (s starts : List ℕ) (k : Kind) (n m all base end : ℕ) (out₀ : List ℕ) where
   -- the chunks from a cursor on
   abbrev coming : ℕ → ℕ → List (List Place)
   coming left at = chunksFrom content s (take end starts) k n left at

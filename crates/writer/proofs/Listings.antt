@@ -17,6 +17,7 @@ use Rattle.names.specs.Names.{below}
 use Rattle.entries.specs.Entry.{listingAt, nameOf}
 use Rattle.entries.specs.declared.Place.{Place}
 use Rattle.entries.specs.declared.Item.the-variants.{Good}
+use Rattle.entries.specs.declared.Kind.the-variants.{Listing}
 use Rattle.chunk.specs.Chunk.{headOf, quickCount}
 use Rattle.entries.proofs.Laws.{listing-inside}
 use Rattle.entries.specs.Stored.{storedOf, entryBytes, unpadded}
@@ -35,14 +36,14 @@ use Rattle.writer.specs.declared.Open.{Open}
 
 module _ (content : ℕ) (s : List ℕ) (n : ℕ) (starts₀ : List ℕ) where
   abbrev rows : ℕ → ℕ → List Place
-  rows left at = rowsFrom content s [] true left at
+  rows left at = rowsFrom content s [] Listing left at
 
   -- the chunks that begin behind those so far
   abbrev coming : Open → ℕ → ℕ → List (List Place)
-  coming f left at = later (rowSize true) (fits true n) (f .count) (f .bytes) (rows left at)
+  coming f left at = later (rowSize Listing) (fits Listing n) (f .count) (f .bytes) (rows left at)
 
   abbrev all : List (List Place)
-  all = chunksFrom content s [] true n (length s) 0
+  all = chunksFrom content s [] Listing n (length s) 0
 
   pub record Reading (starts : List ℕ) (left here from len : ℕ) (f : Open) : Type 0 where
     pub kept : length starts ≡ length starts₀
@@ -55,14 +56,14 @@ module _ (content : ℕ) (s : List ℕ) (n : ℕ) (starts₀ : List ℕ) where
     pub whole : sets starts (f .chunks) (map firstAt (coming f left here)) ≡ sets starts₀ 0 (map firstAt all)
 
   -- behind a full chunk nothing fits
-  none-fits : (e : Place) → fits true n (0 + 1) (4096 + rowSize true e) ≡ false
+  none-fits : (e : Place) → fits Listing n (0 + 1) (4096 + rowSize Listing e) ≡ false
   none-fits e =
-      let l : 4096 < headOf true + (4096 + rowSize true e) + (2 * quickCount n (0 + 1) + 2) = omega arith in
+      let l : 4096 < headOf Listing + (4096 + rowSize Listing e) + (2 * quickCount n (0 + 1) + 2) = omega arith in
       lt-leb _ _ l
 
-  all-coming : later (rowSize true) (fits true n) 0 4096 (rows (length s) 0) ≡ all
+  all-coming : later (rowSize Listing) (fits Listing n) 0 4096 (rows (length s) 0) ≡ all
   unfolding chunksFrom
-  all-coming = later-first (rowSize true) (fits true n) 0 4096 (rows (length s) 0) none-fits
+  all-coming = later-first (rowSize Listing) (fits Listing n) 0 4096 (rows (length s) 0) none-fits
 
   pub reading-start : (length s ≡ 0 → ⊥) → Reading starts₀ (length s) 0 0 0 (record { chunks = 0; count = 0; bytes = 4096 })
   reading-start h =
@@ -81,7 +82,7 @@ module _ (content : ℕ) (s : List ℕ) (n : ℕ) (starts₀ : List ℕ) where
     module _ (q : ahead content s left here ≡ []) where
       none-coming : coming f left here ≡ []
       unfolding itemFrom
-      none-coming = ap (later (rowSize true) (fits true n) (f .count) (f .bytes)) q ∙ later-none (rowSize true) (fits true n) (f .count) (f .bytes)
+      none-coming = ap (later (rowSize Listing) (fits Listing n) (f .count) (f .bytes)) q ∙ later-none (rowSize Listing) (fits Listing n) (f .count) (f .bytes)
 
       right-here : inputRight content s ≡ eqb here (length s)
       right-here = sym (p .right) ∙ passes-end content s left here (part s from len) q
@@ -102,22 +103,22 @@ module _ (content : ℕ) (s : List ℕ) (n : ℕ) (starts₀ : List ℕ) where
       right-entry = sym (p .right) ∙ passes-more content s left here (part s from len) e some q
 
       -- the size of what is written for it
-      written-size : length (entryBytes true (storedOf s e)) ≡ rowSize true e
-      written-size = row-bytes true s e (listing-inside content s here e q .name)
+      written-size : length (entryBytes Listing (storedOf s e)) ≡ rowSize Listing e
+      written-size = row-bytes Listing s e (listing-inside content s here e q .name)
 
-      pub reading-padded : (size : ℕ) → size ≡ rowSize true e → (e .next - e .at ≡ size → ⊥) → inputRight content s ≡ false
+      pub reading-padded : (size : ℕ) → size ≡ rowSize Listing e → (e .next - e .at ≡ size → ⊥) → inputRight content s ≡ false
       reading-padded size z h =
-          let n : ℕ = length (entryBytes true (storedOf s e)) in
+          let n : ℕ = length (entryBytes Listing (storedOf s e)) in
           let u : unpadded s e ≡ false = ne-eqb (e .next) (e .at + n) (λ (k : e .next ≡ e .at + n). h (omega (arith, written-size))) in
           rw u at right-entry
 
-      short-entry : (size : ℕ) → size ≡ rowSize true e → e .next - e .at ≡ size → unpadded s e ≡ true
-      short-entry size z h = eq-eqb (e .next) (e .at + length (entryBytes true (storedOf s e))) (omega (arith, written-size, listing-inside content s here e q .moves, listing-inside content s here e q .same))
+      short-entry : (size : ℕ) → size ≡ rowSize Listing e → e .next - e .at ≡ size → unpadded s e ≡ true
+      short-entry size z h = eq-eqb (e .next) (e .at + length (entryBytes Listing (storedOf s e))) (omega (arith, written-size, listing-inside content s here e q .moves, listing-inside content s here e q .same))
 
       pub reading-falls : below (part s from len) (nameOf s e) ≡ false → inputRight content s ≡ false
       reading-falls h = rw (h, and-no) at right-entry
 
-      pub reading-next : length s < 2 ^ 64 → (size : ℕ) → size ≡ rowSize true e → Next f e size
+      pub reading-next : length s < 2 ^ 64 → (size : ℕ) → size ≡ rowSize Listing e → Next f e size
       reading-next l size z =
           let g = listing-inside content s here e q in
           record {
@@ -130,27 +131,27 @@ module _ (content : ℕ) (s : List ℕ) (n : ℕ) (starts₀ : List ℕ) where
 
       row-coming : rows left here ≡ e ∷ rows (left - 1) (e .next)
       unfolding itemFrom
-      row-coming = run-more (itemFrom content s [] true) left here e some q
+      row-coming = run-more (itemFrom content s [] Listing) left here e some q
 
-      module _ (size : ℕ) (z₁ : size ≡ rowSize true e) (z₂ : e .next - e .at ≡ size) (h : below (part s from len) (nameOf s e) ≡ true) where
+      module _ (size : ℕ) (z₁ : size ≡ rowSize Listing e) (z₂ : e .next - e .at ≡ size) (h : below (part s from len) (nameOf s e) ≡ true) where
         right-on : passes s (e .next) (nameOf s e) (ahead content s (left - 1) (e .next)) ≡ inputRight content s
         right-on = sym (rw (short-entry size z₁ z₂, h) at right-entry)
 
         -- by whether it fits
-        turn : (t : Bool) → fits true n (f .count + 1) (f .bytes + rowSize true e) ≡ t
+        turn : (t : Bool) → fits Listing n (f .count + 1) (f .bytes + rowSize Listing e) ≡ t
             → Reading (cond t starts (set starts (f .chunks) (e .at))) (left - 1) (e .next) (e .start) (e .len)
-            (cond t (record { chunks = f .chunks; count = f .count + 1; bytes = f .bytes + rowSize true e }) (record { chunks = f .chunks + 1; count = 1; bytes = rowSize true e }))
+            (cond t (record { chunks = f .chunks; count = f .count + 1; bytes = f .bytes + rowSize Listing e }) (record { chunks = f .chunks + 1; count = 1; bytes = rowSize Listing e }))
         unfolding firstAt
         turn true z =
             let g = listing-inside content s here e q in
-            let x : Open = record { chunks = f .chunks; count = f .count + 1; bytes = f .bytes + rowSize true e } in
+            let x : Open = record { chunks = f .chunks; count = f .count + 1; bytes = f .bytes + rowSize Listing e } in
             let a : coming f left here ≡ coming x (left - 1) (e .next) =
-            ap (later (rowSize true) (fits true n) (f .count) (f .bytes)) row-coming ∙ later-fits (rowSize true) (fits true n) (f .count) (f .bytes) e (rows (left - 1) (e .next)) z in
+            ap (later (rowSize Listing) (fits Listing n) (f .count) (f .bytes)) row-coming ∙ later-fits (rowSize Listing) (fits Listing n) (f .count) (f .bytes) e (rows (left - 1) (e .next)) z in
             record {
               kept = p .kept;
               named = g .name;
-              small = omega (arith, fits-small true n (f .count + 1) (f .bytes + rowSize true e) z);
-              counted = omega (arith, p .counted, row-long true e, g .some);
+              small = omega (arith, fits-small Listing n (f .count + 1) (f .bytes + rowSize Listing e) z);
+              counted = omega (arith, p .counted, row-long Listing e, g .some);
               numbered = omega (arith, p .numbered);
               right = right-on;
               rest = omega (arith, ap length a, p .rest);
@@ -158,15 +159,15 @@ module _ (content : ℕ) (s : List ℕ) (n : ℕ) (starts₀ : List ℕ) where
             }
         turn false z =
             let g = listing-inside content s here e q in
-            let x : Open = record { chunks = f .chunks + 1; count = 1; bytes = rowSize true e } in
-            let first : List Place = e ∷ take (taken (rowSize true) (fits true n) 1 (rowSize true e) (rows (left - 1) (e .next))) (rows (left - 1) (e .next)) in
+            let x : Open = record { chunks = f .chunks + 1; count = 1; bytes = rowSize Listing e } in
+            let first : List Place = e ∷ take (taken (rowSize Listing) (fits Listing n) 1 (rowSize Listing e) (rows (left - 1) (e .next))) (rows (left - 1) (e .next)) in
             let a : coming f left here ≡ first ∷ coming x (left - 1) (e .next) =
-            ap (later (rowSize true) (fits true n) (f .count) (f .bytes)) row-coming ∙ later-full (rowSize true) (fits true n) (f .count) (f .bytes) e (rows (left - 1) (e .next)) z in
+            ap (later (rowSize Listing) (fits Listing n) (f .count) (f .bytes)) row-coming ∙ later-full (rowSize Listing) (fits Listing n) (f .count) (f .bytes) e (rows (left - 1) (e .next)) z in
             record {
               kept = length-set starts (f .chunks) (e .at) ∙ p .kept;
               named = g .name;
-              small = omega (arith, row-short true e (g .short));
-              counted = omega (arith, row-long true e, g .some);
+              small = omega (arith, row-short Listing e (g .short));
+              counted = omega (arith, row-long Listing e, g .some);
               numbered = omega (arith, p .numbered);
               right = right-on;
               rest = omega (arith, ap length a, p .rest);
@@ -182,9 +183,9 @@ module _ (content : ℕ) (s : List ℕ) (n : ℕ) (starts₀ : List ℕ) where
 
 -- ---- one entry more, by a call that measures it and one that tests whether it fits
 
-module _ (n : ℕ) (f : Open) (e : Place) (starts : List ℕ) (size : ℕ) (z : size ≡ rowSize true e) (t : Bool) (w : t ≡ fits true n (f .count + 1) (f .bytes + size)) where
-  fits-is : (u : Bool) → t ≡ u → fits true n (f .count + 1) (f .bytes + rowSize true e) ≡ u
-  fits-is u h = ap (λ (i : ℕ). fits true n (f .count + 1) (f .bytes + i)) (sym z) ∙ sym w ∙ h
+module _ (n : ℕ) (f : Open) (e : Place) (starts : List ℕ) (size : ℕ) (z : size ≡ rowSize Listing e) (t : Bool) (w : t ≡ fits Listing n (f .count + 1) (f .bytes + size)) where
+  fits-is : (u : Bool) → t ≡ u → fits Listing n (f .count + 1) (f .bytes + rowSize Listing e) ≡ u
+  fits-is u h = ap (λ (i : ℕ). fits Listing n (f .count + 1) (f .bytes + i)) (sym z) ∙ sym w ∙ h
 
   pub added-here : t ≡ true
       → (record { chunks = f .chunks; count = f .count + 1; bytes = f .bytes + size } ≡ openWith n f e) × (starts ≡ startsWith n f e starts)

@@ -2,10 +2,11 @@
 -- Assumes nothing.
 use Prim.Native.Nat.{ℕ}
 use mathlib.Core.Path.{_≡_}
-use mathlib.Core.Bool.{true, cond}
+use mathlib.Core.Bool.{cond}
 use mathlib.Core.List.{List, _++_, flatMap}
 use lib.ListN.{length, take, drop}
 use lib.Dec.{leb}
+use Rattle.entries.specs.declared.Kind.the-variants.{Listing}
 use Rattle.refusals.specs.Refusals.{refusalOf}
 use Rattle.entries.specs.Stored.{entryBytes}
 use Rattle.source.specs.Input.{given}
@@ -43,5 +44,5 @@ Worth (Refused r) density time language content s out = Unit {0}
 -- ---- what the input then was: what is written for its entries, each number in its short form (W2, N4)
 
 abbrev pub ShortInput : Written → ℕ → List ℕ → Type 0
-ShortInput (Length n) content s = s ≡ flatMap (entryBytes true) (given content s)
+ShortInput (Length n) content s = s ≡ flatMap (entryBytes Listing) (given content s)
 ShortInput (Refused r) content s = Unit {0}

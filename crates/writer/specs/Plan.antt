@@ -8,6 +8,8 @@ use lib.ListN.{length, take, set}
 use lib.Seq.{sets}
 use lib.Dec.{ltb, leb}
 use Rattle.entries.specs.declared.Place.{Place}
+use Rattle.entries.specs.declared.Kind.{Kind}
+use Rattle.entries.specs.declared.Kind.the-variants.{Listing, Index}
 use Rattle.source.specs.Input.{given, inputRight}
 use Rattle.pack.specs.Groups.{fits}
 use Rattle.pack.specs.Fill.{rowSize}
@@ -29,7 +31,7 @@ limits density content = leb density 7 && ltb content (2 ^ 62)
 
 -- what is known of them: no number grows past the bytes of a chunk, or past what can be taken
 pub record Next (f : Open) (e : Place) (size : ℕ) : Type 0 where
-  pub sized : size ≡ rowSize true e
+  pub sized : size ≡ rowSize Listing e
   pub short : e .len ≤ 1024
   pub small : f .bytes ≤ 4096
   pub counted : f .count ≤ f .bytes
@@ -38,21 +40,21 @@ pub record Next (f : Open) (e : Place) (size : ℕ) : Type 0 where
 -- with that entry: in the last chunk, or as the first of a new one
 unfoldable pub openWith : ℕ → Open → Place → Open
 openWith n f e =
-    cond (fits true n (f .count + 1) (f .bytes + rowSize true e))
-    (record { chunks = f .chunks; count = f .count + 1; bytes = f .bytes + rowSize true e })
-    (record { chunks = f .chunks + 1; count = 1; bytes = rowSize true e })
+    cond (fits Listing n (f .count + 1) (f .bytes + rowSize Listing e))
+    (record { chunks = f .chunks; count = f .count + 1; bytes = f .bytes + rowSize Listing e })
+    (record { chunks = f .chunks + 1; count = 1; bytes = rowSize Listing e })
 
 -- and the places of their first entries, as far as there is room for them
 unfoldable pub startsWith : ℕ → Open → Place → List ℕ → List ℕ
 startsWith n f e starts =
-    cond (fits true n (f .count + 1) (f .bytes + rowSize true e)) starts (set starts (f .chunks) (e .at))
+    cond (fits Listing n (f .count + 1) (f .bytes + rowSize Listing e)) starts (set starts (f .chunks) (e .at))
 
 -- ---- the listing level, checked and planned: m is the number of its chunks
 
 pub record Listed (content : ℕ) (s : List ℕ) (n : ℕ) (starts₀ starts : List ℕ) (m : ℕ) : Type 0 where
   pub right : inputRight content s ≡ true
-  pub count : m ≡ length (chunksFrom content s [] true n (length s) 0)
-  pub places : starts ≡ sets starts₀ 0 (map firstAt (chunksFrom content s [] true n (length s) 0))
+  pub count : m ≡ length (chunksFrom content s [] Listing n (length s) 0)
+  pub places : starts ≡ sets starts₀ 0 (map firstAt (chunksFrom content s [] Listing n (length s) 0))
 
 abbrev pub ListingPlanned : ℕ → List ℕ → ℕ → List ℕ → List ℕ → Leaves → Type 0
 ListingPlanned content s n starts₀ starts (Count m) = Listed content s n starts₀ starts m
@@ -62,9 +64,9 @@ ListingPlanned content s n starts₀ starts Leaves.Bad = inputRight content s �
 
 pub record LevelPlanned (content : ℕ) (s : List ℕ) (n base end : ℕ) (starts₀ starts : List ℕ) (r : ℕ) : Type 0 where
   pub most : r ≤ length starts₀ + 1
-  pub count : r ≤ length starts₀ → r ≡ end + length (chunksFrom content s (take end starts₀) false n (end - base) base)
-  pub places : r ≤ length starts₀ → starts ≡ sets starts₀ end (map firstAt (chunksFrom content s (take end starts₀) false n (end - base) base))
-  pub over : length starts₀ < r → length starts₀ < end + length (chunksFrom content s (take end starts₀) false n (end - base) base)
+  pub count : r ≤ length starts₀ → r ≡ end + length (chunksFrom content s (take end starts₀) Index n (end - base) base)
+  pub places : r ≤ length starts₀ → starts ≡ sets starts₀ end (map firstAt (chunksFrom content s (take end starts₀) Index n (end - base) base))
+  pub over : length starts₀ < r → length starts₀ < end + length (chunksFrom content s (take end starts₀) Index n (end - base) base)
 
 -- ---- all levels of a layout, planned: m is the number of its listing chunks
 
@@ -83,14 +85,14 @@ Planned content s n starts Shape.Bad = inputRight content s ≡ false
 
 -- ---- room for a level, and for all index levels
 
-pub record LevelFits (content : ℕ) (s starts : List ℕ) (k : Bool) (n left at end room : ℕ) : Type 0 where
+pub record LevelFits (content : ℕ) (s starts : List ℕ) (k : Kind) (n left at end room : ℕ) : Type 0 where
   pub known : end ≤ length starts
   pub few : end + length (chunksFrom content s (take end starts) k n left at) ≤ 4096
   pub enough : headLength (end + length (chunksFrom content s (take end starts) k n left at)) ≤ room
 
 -- the index chunks
 abbrev pub indexOf : ℕ → ℕ → Layout → List (List ℕ)
-indexOf n m l = chunksOf false n m m (flatten (l .levels))
+indexOf n m l = chunksOf Index n m m (flatten (l .levels))
 
 pub record IndexFits (s starts : List ℕ) (l : Layout) (m room : ℕ) : Type 0 where
   pub listings : m ≡ length (l .leaves)

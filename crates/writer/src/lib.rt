@@ -20,6 +20,7 @@ ghost use Rattle.layout.specs.Layout.{layoutOf, layoutFor, prevOf, nextOf, chun
 ghost use Rattle.writer.specs.Head.{written, outputFor, Worth, ShortInput};
 ghost use Rattle.writer.specs.Plan.{limits, Next, openWith, startsWith, ListingPlanned, LevelPlanned, Planned, LevelFits, IndexFits, indexOf, headersOf, Ready};
 use entries::Item;
+use entries::Kind;
 use entries::Place;
 use pack::Extent;
 use refusals::Refusal;
@@ -79,7 +80,7 @@ fn add(starts: &mut [usize], n: usize, f: Open, e: Place, size: usize) -> Open
     ensures { λ r. ⌜ (r ≡ openWith n f e) × (now (starts .exit) ≡ startsWith n f e (now (starts .entry))) ⌝ }
 {
     let bytes = f.bytes + size;
-    if pack::fits(true, n, f.count, bytes) {
+    if pack::fits(Kind::Listing, n, f.count, bytes) {
         return Open {
             chunks: f.chunks,
             count: f.count + 1,
@@ -135,7 +136,7 @@ fn plan_listing(input: &[u8], content: u64, n: usize, starts: &mut [usize]) -> L
             }
             return Leaves::Bad;
         };
-        let size = pack::entry_size(true, e);
+        let size = pack::entry_size(Kind::Listing, e);
         if e.next - e.at != size {
             return Leaves::Bad;
         }
@@ -165,7 +166,7 @@ fn plan_level(
 {
     let left = end - base;
     let mut c = Cursor {
-        listing: false,
+        kind: Kind::Index,
         at: base,
         left,
     };
@@ -180,7 +181,7 @@ fn plan_level(
         let f = pack::fill(input, &starts[..end], content, c, n);
         starts[j] = e.at;
         c = Cursor {
-            listing: false,
+            kind: Kind::Index,
             at: f.at,
             left: f.left,
         };
@@ -230,7 +231,7 @@ fn put_chunk(
     c: usize,
 ) -> Extent
     requires { ⌜ (204 + 4096 * (c + 1) ≤ length (now out)) × (c < 4096) ⌝ }
-    ensures { λ r. ⌜ (r ≡ extentFrom (from .listing) n 0 0 (from .at) (from .left) (rowsFrom content (now (input .entry)) (now (starts .entry)) (from .listing) (from .left) (from .at))) × (now (out .exit) ≡ sets (now (out .entry)) (204 + 4096 * c) (newChunk (from .listing) n (prevOf c) (nextOf m c) (groupFrom content (now (input .entry)) (now (starts .entry)) (from .listing) (from .left) (from .at) (r .count)))) ⌝ }
+    ensures { λ r. ⌜ (r ≡ extentFrom (from .kind) n 0 0 (from .at) (from .left) (rowsFrom content (now (input .entry)) (now (starts .entry)) (from .kind) (from .left) (from .at))) × (now (out .exit) ≡ sets (now (out .entry)) (204 + 4096 * c) (newChunk (from .kind) n (prevOf c) (nextOf m c) (groupFrom content (now (input .entry)) (now (starts .entry)) (from .kind) (from .left) (from .at) (r .count)))) ⌝ }
 {
     let at = 204 + 4096 * c;
     compose::write_chunk(
@@ -256,10 +257,10 @@ fn put_level(
     m: u32,
     end: usize,
 ) -> usize
-    requires { ⌜ LevelFits content (now input) (now starts) (from .listing) n (from .left) (from .at) end (length (now out)) ⌝ }
-    ensures { λ r. ⌜ (r ≡ end + length (chunksFrom content (now (input .entry)) (take end (now (starts .entry))) (from .listing) n (from .left) (from .at))) × (now (out .exit) ≡ sets (now (out .entry)) (204 + 4096 * end) (flatten (chunksOf (from .listing) n m end (map (map (storedOf (now (input .entry)))) (chunksFrom content (now (input .entry)) (take end (now (starts .entry))) (from .listing) n (from .left) (from .at)))))) ⌝ }
+    requires { ⌜ LevelFits content (now input) (now starts) (from .kind) n (from .left) (from .at) end (length (now out)) ⌝ }
+    ensures { λ r. ⌜ (r ≡ end + length (chunksFrom content (now (input .entry)) (take end (now (starts .entry))) (from .kind) n (from .left) (from .at))) × (now (out .exit) ≡ sets (now (out .entry)) (204 + 4096 * end) (flatten (chunksOf (from .kind) n m end (map (map (storedOf (now (input .entry)))) (chunksFrom content (now (input .entry)) (take end (now (starts .entry))) (from .kind) n (from .left) (from .at)))))) ⌝ }
 {
-    let listing = from.listing;
+    let kind = from.kind;
     let mut c = from;
     let mut j = end;
     loop {
@@ -268,7 +269,7 @@ fn put_level(
         };
         let f = put_chunk(out, input, &starts[..end], content, c, n, m, j);
         c = Cursor {
-            listing,
+            kind,
             at: f.at,
             left: f.left,
         };
@@ -286,7 +287,7 @@ fn put_index(out: &mut [u8], input: &[u8], starts: &[usize], content: u64, n: us
     while 1 < end - base {
         let left = end - base;
         let level = Cursor {
-            listing: false,
+            kind: Kind::Index,
             at: base,
             left,
         };
@@ -435,7 +436,7 @@ fn put_head(
 {
     put_headers(out, density, time, language, content, m, depth, count);
     let first = Cursor {
-        listing: true,
+        kind: Kind::Listing,
         at: 0,
         left: entries.len(),
     };

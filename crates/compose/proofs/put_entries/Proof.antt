@@ -11,26 +11,26 @@ use Rattle.compose.proofs.put_entries.Statement.{statement}
 use Rattle.compose.proofs.put_entries.Tie as tie
 
 abbrev Inv-loop : tie.InvT-loop
-Inv-loop out₀ input starts content from n first f₀ out f =
-    (length out ≡ length out₀) × Putting content input starts (from .listing) (from .left) (from .at) n out f
+Inv-loop out₀ input starts content n kind first f₀ out f =
+    (length out ≡ length out₀) × Putting content input starts kind (f₀ .left) (f₀ .at) n out f
 
 abbrev μ-loop : tie.MeasureT-loop
-μ-loop out₀ input starts content from n first f₀ out f = f .left
+μ-loop out₀ input starts content n kind first f₀ out f = f .left
 
 whole-size : (c : tie.At-loop Inv-loop μ-loop) → length (c .loop .out) ≡ 4096
 whole-size c = c .loop .inv .0 ∙ c .before .before .before .before .before .pre .0
 
 -- the entry that is next
 next : (c : tie.After-e Inv-loop μ-loop) → let l = c .before .before .before in let a = l .before .before .before .before .before .args in
-    Fitted (a .content) (now (a .input)) (now (a .starts)) (a .from .listing) (a .n) (l .loop .f .count) (l .loop .f .bytes) (l .loop .f .left) (l .loop .f .at) (c .e .given .0 .0) (c .e .given .0 .1 .0)
+    Fitted (a .content) (now (a .input)) (now (a .starts)) (a .from .kind) (a .n) (l .loop .f .count) (l .loop .f .bytes) (l .loop .f .left) (l .loop .f .at) (c .e .given .0 .0) (c .e .given .0 .1 .0)
 next c = fitted _ _ _ _ _ _ _ _ _ _ _ (sym (c .before .before .next-fit .ensures) ∙ c .e .given .1)
 
 turn : (c : tie.After-e Inv-loop μ-loop) → let l = c .before .before .before in let a = l .before .before .before .before .before .args in
-    Turn (a .content) (now (a .input)) (now (a .starts)) (a .from .listing) (a .from .left) (a .from .at) (a .n) (l .loop .out) (l .loop .f) (l .loop .inv .1) (c .e .given .0 .0) (c .e .given .0 .1 .0) (next c)
+    Turn (a .content) (now (a .input)) (now (a .starts)) (a .from .kind) (a .from .left) (a .from .at) (a .n) (l .loop .out) (l .loop .f) (l .loop .inv .1) (c .e .given .0 .0) (c .e .given .0 .1 .0) (next c)
 turn c = putting-turn _ _ _ _ _ _ _ _ _ _ _ _ _
 
-head-requires : tie.Need-head-requires Inv-loop μ-loop
-head-requires c κs = search needs
+first-place-requires : tie.Need-first-place-requires Inv-loop μ-loop
+first-place-requires c κs = search needs
 
 loop-holds : tie.Need-loop-holds Inv-loop μ-loop
 loop-holds c = let p = c .before .before .before .before .pre in (refl, putting-start _ _ _ _ _ _ _ _ (p .0) (p .1))
@@ -53,19 +53,19 @@ returns c =
     putting-end _ _ _ _ _ _ _ _ _ (t .before .loop .inv .1) (sym (t .next-fit .ensures) ∙ c .enum-told .given .1)
 
 add-put-entry : tie.Need-add-put-entry Inv-loop μ-loop
-add-put-entry c = let e = c .before .before .before in omega (arith, turn e .fits, e .before .before .before .before .head .ensures)
+add-put-entry c = let e = c .before .before .before in omega (arith, turn e .fits, e .before .before .before .before .first-place .ensures)
 
 put-entry-requires : tie.Need-put-entry-requires Inv-loop μ-loop
-put-entry-requires c κs = let e = c .before .before .before in (omega (arith, turn e .fits, whole-size (e .before .before .before), e .before .before .before .before .head .ensures), next e .inside)
+put-entry-requires c κs = let e = c .before .before .before in (omega (arith, turn e .fits, whole-size (e .before .before .before), e .before .before .before .before .first-place .ensures), next e .inside)
 
 mark-requires : tie.Need-mark-requires Inv-loop μ-loop
 mark-requires c κs = let e = c .before .before .before .before .before .before .before in (c .before .before .before .put-entry .kept .0 ∙ whole-size (e .before .before .before), turn e .words, omega (arith, turn e .near))
 
-add-t15 : tie.Need-add-t15 Inv-loop μ-loop
-add-t15 c = let e = c .before .before .before .before .before .before .before .before .before .before .before in omega (arith, e .before .before .before .loop .inv .1 .few, turn e .near)
+add-t16 : tie.Need-add-t16 Inv-loop μ-loop
+add-t16 c = let e = c .before .before .before .before .before .before .before .before .before .before .before in omega (arith, e .before .before .before .loop .inv .1 .few, turn e .near)
 
-sub-t18 : tie.Need-sub-t18 Inv-loop μ-loop
-sub-t18 c = let t = next (c .before .before .before .before .before .before .before .before .before .before .before .before) in omega (arith, t .some)
+sub-t19 : tie.Need-sub-t19 Inv-loop μ-loop
+sub-t19 c = let t = next (c .before .before .before .before .before .before .before .before .before .before .before .before) in omega (arith, t .some)
 
 loop-less : tie.Need-loop-less Inv-loop μ-loop
 loop-less c = let t = next (c .before .before .before .before .before .before .before .before .before .before .before .before) in omega (arith, t .some)
@@ -76,7 +76,7 @@ loop-again c =
     let l = e .before .before .before in
     let p = c .before .before .before .before .before .before .before .before .put-entry in
     let m = c .before .before .before .before .mark in
-    (m .kept .0 ∙ p .kept .0 ∙ l .loop .inv .0, putting-more _ _ _ _ _ _ _ _ _ (l .loop .inv .1) _ _ (next e) _ _ _ (l .before .head .ensures) (p .ensures) (m .ensures))
+    (m .kept .0 ∙ p .kept .0 ∙ l .loop .inv .0, putting-more _ _ _ _ _ _ _ _ _ (l .loop .inv .1) _ _ (next e) _ _ _ (l .before .first-place .ensures) (p .ensures) (m .ensures))
 
 pub put-entries-spec : {M : Type 1} → statement M
 put-entries-spec =
@@ -84,7 +84,7 @@ put-entries-spec =
     (tie.spec
     Inv-loop
     μ-loop
-    head-requires
+    first-place-requires
     loop-holds
     next-fit-requires
     enum-known-e
@@ -94,7 +94,7 @@ put-entries-spec =
     add-put-entry
     put-entry-requires
     mark-requires
-    add-t15
-    sub-t18
+    add-t16
+    sub-t19
     loop-less
     loop-again)

@@ -11,17 +11,17 @@ use Rattle.pack.proofs.fill.Statement.{statement}
 use Rattle.pack.proofs.fill.Tie as tie
 
 abbrev Inv-loop : tie.InvT-loop
-Inv-loop input starts content from n f₀ f =
+Inv-loop input starts content n kind f₀ f =
     (f .count ≤ f .bytes) × (f .bytes ≤ 4096)
-    × (extentFrom (from .listing) n (f .count) (f .bytes) (f .at) (f .left) (rowsFrom content input starts (from .listing) (f .left) (f .at))
-    ≡ extentFrom (from .listing) n 0 0 (from .at) (from .left) (rowsFrom content input starts (from .listing) (from .left) (from .at)))
+    × (extentFrom kind n (f .count) (f .bytes) (f .at) (f .left) (rowsFrom content input starts kind (f .left) (f .at))
+    ≡ extentFrom kind n 0 0 (f₀ .at) (f₀ .left) (rowsFrom content input starts kind (f₀ .left) (f₀ .at)))
 
 abbrev μ-loop : tie.MeasureT-loop
-μ-loop input starts content from n f₀ f = f .left
+μ-loop input starts content n kind f₀ f = f .left
 
 -- the entry that is next
 next : (c : tie.After-e Inv-loop μ-loop) → let l = c .before .before .before in let a = l .before .before .before .args in
-    Fitted (a .content) (now (a .input)) (now (a .starts)) (a .from .listing) (a .n) (l .loop .f .count) (l .loop .f .bytes) (l .loop .f .left) (l .loop .f .at) (c .e .given .0 .0) (c .e .given .0 .1 .0)
+    Fitted (a .content) (now (a .input)) (now (a .starts)) (a .from .kind) (a .n) (l .loop .f .count) (l .loop .f .bytes) (l .loop .f .left) (l .loop .f .at) (c .e .given .0 .0) (c .e .given .0 .1 .0)
 next c = fitted _ _ _ _ _ _ _ _ _ _ _ (sym (c .before .before .next-fit .ensures) ∙ c .e .given .1)
 
 loop-holds : tie.Need-loop-holds Inv-loop μ-loop
@@ -41,11 +41,11 @@ returns c =
     let t = c .before .before in
     sym (full _ _ _ _ _ _ _ _ _ (sym (t .next-fit .ensures) ∙ c .enum-told .given .1)) ∙ t .before .loop .inv .2
 
-add-t10 : tie.Need-add-t10 Inv-loop μ-loop
-add-t10 c = search needs
+add-t11 : tie.Need-add-t11 Inv-loop μ-loop
+add-t11 c = search needs
 
-sub-t11 : tie.Need-sub-t11 Inv-loop μ-loop
-sub-t11 c = omega (arith, next (c .before .before .before) .some)
+sub-t12 : tie.Need-sub-t12 Inv-loop μ-loop
+sub-t12 c = omega (arith, next (c .before .before .before) .some)
 
 loop-less : tie.Need-loop-less Inv-loop μ-loop
 loop-less c = let t = next (c .before .before .before) in omega (arith, t .some)
@@ -68,7 +68,7 @@ fill-spec =
     enum-known-e
     enum-told
     returns
-    add-t10
-    sub-t11
+    add-t11
+    sub-t12
     loop-less
     loop-again)

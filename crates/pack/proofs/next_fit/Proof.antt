@@ -14,12 +14,12 @@ use Rattle.pack.proofs.next_fit.Tie as tie
 
 -- the entry at the cursor
 read-is : (c : tie.After-e) → let a = c .before .before .before .before .before .before .before .args in
-    Stepped (a .f .left) (itemFrom (a .content) (now (a .input)) (now (a .starts)) (a .listing) (a .f .at)) (c .e .given .0 .0)
+    Stepped (a .f .left) (itemFrom (a .content) (now (a .input)) (now (a .starts)) (a .kind) (a .f .at)) (c .e .given .0 .0)
 read-is c = taken-entry _ _ _ (sym (c .before .before .step .ensures) ∙ c .e .given .1)
 
 -- its size
 sized : (c : tie.After-entry-size) → let e = c .before .before in
-    c .entry-size .result ≡ rowSize (e .before .before .before .before .before .before .before .args .listing) (e .e .given .0 .0)
+    c .entry-size .result ≡ rowSize (e .before .before .before .before .before .before .before .args .kind) (e .e .given .0 .0)
 sized c = let e = c .before .before in c .entry-size .ensures ∙ size-row _ _ (row-of _ _ _ _ _ _ (read-is e .item) .short)
 
 -- it is short
@@ -27,7 +27,7 @@ small : (c : tie.After-entry-size) → c .entry-size .result ≤ 1060
 small c =
     let e = c .before .before in
     let a = e .before .before .before .before .before .before .before .args in
-    omega (arith, sized c, row-short (a .listing) (e .e .given .0 .0) (row-of _ _ _ _ _ _ (read-is e .item) .short))
+    omega (arith, sized c, row-short (a .kind) (e .e .given .0 .0) (row-of _ _ _ _ _ _ (read-is e .item) .short))
 
 returns : tie.Need-returns
 returns c = sym (fit-over _ _ _ _ _ (c .if1 .taken))

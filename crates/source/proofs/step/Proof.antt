@@ -10,19 +10,25 @@ use Rattle.source.proofs.step.Tie as tie
 returns : tie.Need-returns
 returns c = taken-spent _ _ (omega (arith, c .if1 .taken))
 
+enum-told : tie.Need-enum-told
+enum-told c = search needs
+
 listing-at-requires : tie.Need-listing-at-requires
 listing-at-requires c κs = search needs
 
-returns-2 : tie.Need-returns-2
-unfolding itemFrom
-returns-2 c = let i = c .before in rw (i .if2 .taken) (c .listing-at .ensures ∙ taken-some _ _ (i .before .if1 .left))
+enum-told-2 : tie.Need-enum-told-2
+enum-told-2 c = search needs
 
 child-at-requires : tie.Need-child-at-requires
 child-at-requires c κs = search needs
 
+returns-2 : tie.Need-returns-2
+unfolding itemFrom
+returns-2 c = let i = c .before in rw (i .enum-told .given .1) (c .listing-at .ensures ∙ taken-some _ _ (i .before .before .if1 .left))
+
 returns-3 : tie.Need-returns-3
 unfolding itemFrom
-returns-3 c = let i = c .before in rw (i .if2 .left) (c .child-at .ensures ∙ taken-some _ _ (i .before .if1 .left))
+returns-3 c = let i = c .before in rw (i .enum-told2 .given .1) (c .child-at .ensures ∙ taken-some _ _ (i .before .before .if1 .left))
 
 pub step-spec : {M : Type 1} → statement M
-step-spec = tie.close (tie.spec returns listing-at-requires returns-2 child-at-requires returns-3)
+step-spec = tie.close (tie.spec returns enum-told listing-at-requires enum-told-2 child-at-requires returns-2 returns-3)

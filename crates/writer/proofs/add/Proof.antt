@@ -1,8 +1,8 @@
 -- `head::add` meets its contract. Assumes nothing.
 use mathlib.Core.Path.{refl, sym}
-use mathlib.Core.Bool.{true}
 use native.Mathlib.Omega.{arith}
 use lib.Seq.{set-out}
+use Rattle.entries.specs.declared.Kind.the-variants.{Listing}
 use Rattle.pack.proofs.Sizes.{row-short}
 use Rattle.writer.proofs.Listings.{added-here, added-next}
 use borrow.Author.Needs.{needs}
@@ -12,13 +12,13 @@ use Rattle.writer.proofs.add.Tie as tie
 add-bytes : tie.Need-add-bytes
 add-bytes c =
     let a = c .before .before in
-    omega (arith, a .pre .sized, row-short true (a .args .e) (a .pre .short), a .pre .small)
+    omega (arith, a .pre .sized, row-short Listing (a .args .e) (a .pre .short), a .pre .small)
 
 fits-requires : tie.Need-fits-requires
 fits-requires c κs = search needs
 
-add-t10 : tie.Need-add-t10
-add-t10 c = search needs
+add-t11 : tie.Need-add-t11
+add-t11 c = search needs
 
 returns : tie.Need-returns
 returns c = added-here _ _ _ _ _ (c .before .before .before .before .before .pre .sized) _ (c .before .before .fits2 .ensures) (c .before .if1 .taken)
@@ -48,7 +48,7 @@ add-spec =
     (tie.spec
     add-bytes
     fits-requires
-    add-t10
+    add-t11
     returns
     add-if2
     returns-2

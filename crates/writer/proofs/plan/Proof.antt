@@ -4,6 +4,7 @@ use mathlib.Core.Bool.{true}
 use Prim.Native.Nat.{_-_}
 use native.Mathlib.Omega.{arith}
 use denote.Ref.{now}
+use Rattle.entries.specs.declared.Kind.the-variants.{Listing}
 use Rattle.source.specs.Input.{given, inputRight}
 use Rattle.pack.specs.Levels.{level}
 use Rattle.pack.proofs.Levels.{chunks-given}
@@ -14,7 +15,7 @@ use Rattle.writer.proofs.plan.Statement.{statement}
 use Rattle.writer.proofs.plan.Tie as tie
 
 abbrev Inv-loop : tie.InvT-loop
-Inv-loop input content n starts₀ m depth₀ base₀ end₀ starts depth base end = (inputRight content input ≡ true) × Shaping content input n (level n true (given content input)) m starts depth base end
+Inv-loop input content n starts₀ m depth₀ base₀ end₀ starts depth base end = (inputRight content input ≡ true) × Shaping content input n (level n Listing (given content input)) m starts depth base end
 
 abbrev μ-loop : tie.MeasureT-loop
 μ-loop input content n starts₀ m depth₀ base₀ end₀ starts depth base end = 6 - depth

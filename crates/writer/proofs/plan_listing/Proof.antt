@@ -1,12 +1,12 @@
 -- `head::plan_listing` meets its contract. Assumes nothing.
 use mathlib.Core.Path.{_≡_, sym, _∙_}
-use mathlib.Core.Bool.{true}
 use mathlib.Core.List.{[]}
 use Prim.Native.Nat.{_<_}
 use native.Mathlib.Omega.{arith}
 use denote.Ref.{now}
 use Rattle.fields.proofs.Tests.{held, failed}
 use Rattle.entries.specs.Entry.{listingAt}
+use Rattle.entries.specs.declared.Kind.the-variants.{Listing}
 use Rattle.entries.proofs.Laws.{listing-inside}
 use Rattle.source.proofs.Rows.{Stepped, taken-entry, run-end}
 use Rattle.source.proofs.Inputs.{ahead, passes-empty}
@@ -68,7 +68,7 @@ entry-size-requires : tie.Need-entry-size-requires Inv-loop μ-loop
 entry-size-requires c κs = search needs
 
 -- the size of what is written for the entry
-sized : (c : tie.After-entry-size Inv-loop μ-loop) → c .entry-size .result ≡ rowSize true (c .before .before .e .given .0 .0)
+sized : (c : tie.After-entry-size Inv-loop μ-loop) → c .entry-size .result ≡ rowSize Listing (c .before .before .e .given .0 .0)
 sized c = c .entry-size .ensures ∙ size-row _ _ (listing-inside _ _ _ _ (read-is (c .before .before) .item) .short)
 
 sub-if3 : tie.Need-sub-if3 Inv-loop μ-loop

@@ -1,7 +1,7 @@
 -- `head::put_index` meets its contract. Assumes nothing.
-use mathlib.Core.Bool.{true}
 use Prim.Native.Nat.{_-_}
 use native.Mathlib.Omega.{arith}
+use Rattle.entries.specs.declared.Kind.the-variants.{Listing}
 use Rattle.source.specs.Input.{given}
 use Rattle.pack.specs.Levels.{level}
 use Rattle.writer.proofs.Indexing.{Indexing, indexing-start, indexing-end, indexing-room, indexing-some, indexing-turn}
@@ -9,7 +9,7 @@ use Rattle.writer.proofs.put_index.Statement.{statement}
 use Rattle.writer.proofs.put_index.Tie as tie
 
 abbrev Inv-loop : tie.InvT-loop
-Inv-loop out₀ input starts content n m base₀ end₀ out base end = Indexing content input starts n m (level n true (given content input)) out₀ out base end
+Inv-loop out₀ input starts content n m base₀ end₀ out base end = Indexing content input starts n m (level n Listing (given content input)) out₀ out base end
 
 abbrev μ-loop : tie.MeasureT-loop
 μ-loop out₀ input starts content n m base₀ end₀ out base end = 4096 - end
