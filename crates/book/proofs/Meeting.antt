@@ -51,12 +51,12 @@ linked-of true (index es) a b e = absurd (let z : _≡_ {A = ℕ} 0 1 = cc in om
 linked-of false p a b e = absurd (let z : _≡_ {A = ℕ} 0 1 = cc in omega arith)
 
 -- an answer that is no listing chunk, and one that is no index chunk
-not-listing : (x : Chunk) → OneOf (0 ∷ 2 ∷ []) (tagOf chunk-type.the-type x) → isOf true x ≡ false
+not-listing : (x : Chunk) → OneOf (0 ∷ 2 ∷ []) (tagOf chunk-type.the-type x) → isOf Kind.Listing x ≡ false
 not-listing (Refused n) h = refl
 not-listing (Listing p n) h = elim h [ inl e ↦ absurd (omega arith) | inr e ↦ absurd (omega arith) ]
 not-listing Index h = refl
 
-not-index : (x : Chunk) → OneOf (0 ∷ 1 ∷ []) (tagOf chunk-type.the-type x) → isOf false x ≡ false
+not-index : (x : Chunk) → OneOf (0 ∷ 1 ∷ []) (tagOf chunk-type.the-type x) → isOf Kind.Index x ≡ false
 not-index (Refused n) h = refl
 not-index (Listing p n) h = refl
 not-index Index h = elim h [ inl e ↦ absurd (omega arith) | inr e ↦ absurd (omega arith) ]

@@ -107,16 +107,16 @@ module _ (s : List ℕ) (book : Record) (c : ℕ) (is : isListing (directoryOf s
       own-entry s book c e (chunk-whole s book c Listing is) (omega arith)
 
   -- entry i as it is found
-  pub nth-hit : (i : ℕ) (e : Place) → nthIn limits true bytes i ≡ At e
+  pub nth-hit : (i : ℕ) (e : Place) → nthIn limits Listing bytes i ≡ At e
       → (i < countOf bytes) × (nth i es ≡ found (entryOf bytes e)) × (reportAt s book c e ≡ reportOf book c (entryOf bytes e))
   unfolding directoryOf
   nth-hit i e h =
-      let r = nth-read limits true bytes i e h in
-      (r .0, sym (nth-good limits bytes true i is) ∙ ap (soughtOf bytes) h, read-reported (r .1) e (r .2))
+      let r = nth-read limits Listing bytes i e h in
+      (r .0, sym (nth-good limits bytes Listing i is) ∙ ap (soughtOf bytes) h, read-reported (r .1) e (r .2))
 
-  pub nth-nothing : (i : ℕ) → nthIn limits true bytes i ≡ Nothing → nth i es ≡ absent
+  pub nth-nothing : (i : ℕ) → nthIn limits Listing bytes i ≡ Nothing → nth i es ≡ absent
   unfolding directoryOf
-  nth-nothing i h = sym (nth-good limits bytes true i is) ∙ ap (soughtOf bytes) h
+  nth-nothing i h = sym (nth-good limits bytes Listing i is) ∙ ap (soughtOf bytes) h
 
   -- the own bytes lie in the file, and are those of the chunk from the entry's place to the place behind it
   pub own-stored : (at : ℕ) (e : Place) → itemAt limits Listing bytes at ≡ Good e

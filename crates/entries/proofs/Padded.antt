@@ -18,6 +18,7 @@ use Rattle.encint.proofs.Padded.{padded-encint, length-padded}
 use Rattle.entries.specs.Entry.{listingAt, nameOf}
 use Rattle.entries.specs.Padded.{PaddedEntry}
 use Rattle.entries.specs.Stored.{Stored, storedOf, entryBytes, unpadded}
+use Rattle.entries.specs.declared.Kind.the-variants.{Listing}
 use Rattle.entries.specs.declared.Place.{Place}
 use Rattle.entries.specs.declared.Item.the-variants.{Good}
 use Rattle.entries.proofs.Laws.{name-number, listing-apart, listing-inside}
@@ -27,20 +28,20 @@ length-five a b c d e = omega (arith, length-append a (b ++ (c ++ (d ++ e))), le
 
 -- no byte 80 in front of any number
 none-padded : (k₀ k₁ k₂ k₃ : ℕ) (e : Stored) → k₀ ≡ 0 → k₁ ≡ 0 → k₂ ≡ 0 → k₃ ≡ 0
-    → padded k₀ (length (e .name)) ++ (e .name ++ (padded k₁ (e .section) ++ (padded k₂ (e .offset) ++ padded k₃ (e .size)))) ≡ entryBytes true e
+    → padded k₀ (length (e .name)) ++ (e .name ++ (padded k₁ (e .section) ++ (padded k₂ (e .offset) ++ padded k₃ (e .size)))) ≡ entryBytes Listing e
 unfolding entryBytes
 none-padded k₀ k₁ k₂ k₃ e h₀ h₁ h₂ h₃ = rw (h₀, h₁, h₂, h₃)
 
 -- bytes that are an entry, as many as are written for it, are those that are written for it
-none-ahead : (bytes : List ℕ) (e : Stored) → PaddedEntry bytes (e .name) (e .section) (e .offset) (e .size) → length bytes ≡ length (entryBytes true e)
-    → bytes ≡ entryBytes true e
+none-ahead : (bytes : List ℕ) (e : Stored) → PaddedEntry bytes (e .name) (e .section) (e .offset) (e .size) → length bytes ≡ length (entryBytes Listing e)
+    → bytes ≡ entryBytes Listing e
 unfolding entryBytes
 none-ahead bytes e p n =
     let k₀ : ℕ = p .ahead in
     let k₁ : ℕ = p .ahead-section in
     let k₂ : ℕ = p .ahead-offset in
     let k₃ : ℕ = p .ahead-size in
-    let long : length bytes ≡ k₀ + k₁ + k₂ + k₃ + length (entryBytes true e) =
+    let long : length bytes ≡ k₀ + k₁ + k₂ + k₃ + length (entryBytes Listing e) =
     omega (
       arith,
       ap length (p .stands),
@@ -105,9 +106,9 @@ module _ (s : List ℕ) (bytes : (i : ℕ) → getD s i 0 < 256) where
         let z = i .ends in
         length-part s (e .at) (e .next - e .at) (omega arith)
 
-    pub unpadded-bytes : (unpadded s e ≡ true) ↔ (part s (e .at) (e .next - e .at) ≡ entryBytes true (storedOf s e))
+    pub unpadded-bytes : (unpadded s e ≡ true) ↔ (part s (e .at) (e .next - e .at) ≡ entryBytes Listing (storedOf s e))
     unpadded-bytes =
-        let x : List ℕ = entryBytes true (storedOf s e) in
+        let x : List ℕ = entryBytes Listing (storedOf s e) in
         let m : e .at < e .next = omega (arith, listing-inside content s at e q .moves, listing-inside content s at e q .same) in (
           (λ u.
               let n : e .next ≡ e .at + length x = eqb-true (e .next) (e .at + length x) u in
@@ -116,7 +117,7 @@ module _ (s : List ℕ) (bytes : (i : ℕ) → getD s i 0 < 256) where
         )
 
     -- the entry and what stands behind it
-    pub entry-ahead : unpadded s e ≡ true → drop at s ≡ entryBytes true (storedOf s e) ++ drop (e .next) s
+    pub entry-ahead : unpadded s e ≡ true → drop at s ≡ entryBytes Listing (storedOf s e) ++ drop (e .next) s
     entry-ahead u =
         let i = listing-inside content s at e q in
         let h : e .at ≡ at = i .same in

@@ -194,7 +194,7 @@ hit-item : (i : Item) (e : Place) → withItem i Nothing (λ p. At p) ≡ At e �
 hit-item Bad e h = absurd (let z : _≡_ {A = ℕ} 0 1 = cc in omega arith)
 hit-item (Good p) e h = ap Good (let z : p ≡ e = cc in z)
 
-after-read : (limits : Limits) (k : Bool) (s : List ℕ) (j at : ℕ) (e : Place) → afterAt limits k s j at ≡ At e
+after-read : (limits : Limits) (k : Kind) (s : List ℕ) (j at : ℕ) (e : Place) → afterAt limits k s j at ≡ At e
     → (p : ℕ) × (itemAt limits k s p ≡ Good e)
 unfolding afterAt
 after-read limits k s zero at e h = (at, hit-item (itemAt limits k s at) e h)
@@ -203,7 +203,7 @@ after-read limits k s (suc j) at e h =
     (λ g. absurd (let d : Nothing ≡ At e = rw g at h in let z : _≡_ {A = ℕ} 0 1 = cc in omega arith))
     (λ p g. after-read limits k s j (p .next) e (rw g at h))
 
-pub nth-read : (limits : Limits) (k : Bool) (s : List ℕ) (i : ℕ) (e : Place) → nthIn limits k s i ≡ At e
+pub nth-read : (limits : Limits) (k : Kind) (s : List ℕ) (i : ℕ) (e : Place) → nthIn limits k s i ≡ At e
     → (i < countOf s) × (p : ℕ) × (itemAt limits k s p ≡ Good e)
 unfolding nthIn
 nth-read limits k s i e h =
