@@ -24,7 +24,7 @@ names-there limits s end zero at es e = subst (All (There s)) (sym (entries-none
 names-there limits s end (suc n) at es e =
     let m = entries-more limits Listing s end n at es e in
     let p = m .0 in
-    let r = item-inside limits true s at p (m .2) .name in
+    let r = item-inside limits Listing s at p (m .2) .name in
     let l = length-part s (p .start) (p .len) r in
     subst (All (There s)) (sym (m .3))
     (more (record { inside = omega (arith, r); bytes = ap (λ (k : ℕ). part s (p .start) k) l })
