@@ -11,7 +11,8 @@ use lib.Dec.{eqb, lit<}
 use lib.ListN.{length, getD}
 use borrow.Author.Tests.{eqb-true, eq-eqb, ne-eqb, lt-ltb, le-ltb}
 use Rattle.fields.proofs.Tests.{and-both}
-use Rattle.chunk.specs.Chunk.{Entry, quick, quickAt, quickWord, markRight, spacingOf}
+use Rattle.chunk.specs.Chunk.{Entry, quick, quickAt, quickWord, spacingOf}
+use Rattle.chunk.specs.Marks.{markRight}
 
 -- ---- an index as word * n + past
 

@@ -117,10 +117,6 @@ quickWord s k = le 2 s (quickPlace k)
 unfoldable pub quickAt : List ℕ → ℕ → ℕ → ℕ → ℕ → Bool
 quickAt s n first i at = eqb i 0 || (ltb 0 (i % n) || eqb (first + quickWord s (i / n)) at)
 
--- the same for i = word * n + past, with past below n
-abbrev pub markRight : List ℕ → ℕ → ℕ → ℕ → ℕ → Bool
-markRight s first word past at = ltb 0 past || (eqb word 0 || eqb (first + quickWord s word) at)
-
 -- each entry stands where its quick word says, if it has one; the first of the list is entry i
 unfoldable pub quick : List ℕ → ℕ → ℕ → ℕ → List Entry → Bool
 quick s n first i [] = true
