@@ -17,7 +17,7 @@ use Rattle.entries.specs.Entry.{nameOf}
 use Rattle.entries.specs.declared.Place.{Place}
 use Rattle.entries.specs.declared.Kind.{Kind}
 use Rattle.entries.specs.declared.Kind.the-variants.{Listing, Index}
-use Rattle.chunk.specs.Chunk.{Entry, entryOf, entriesIn}
+use Rattle.chunk.specs.Chunk.{Entry, entryOf, entriesIn, countPlace}
 use Rattle.seek.specs.Seek.{Sought, lookup, soughtOf, findIn, chooseIn}
 use Rattle.seek.specs.Count.{costIn}
 use Rattle.seek.specs.declared.Hit.{Hit}
@@ -86,7 +86,7 @@ module _ (s : List ℕ) (book : Record) (name : List ℕ) (c : ℕ) where
   cost-fits : (k : Kind) → costIn (limitsOf s book) k (chunkBytes s book c) (compared name) ≡ costAt s book name c → ((i : ℕ) → getD s i 0 < 256)
       → costAt s book name c < 0x20000
   cost-fits k q bytes =
-      let f = cost-small (limitsOf s book) k (chunkBytes s book c) (compared name) (le-lt (chunkBytes s book c) (chunk-small s book c bytes) 2 4094) in
+      let f = cost-small (limitsOf s book) k (chunkBytes s book c) (compared name) (le-lt (chunkBytes s book c) (chunk-small s book c bytes) 2 countPlace) in
       omega (arith, f, q)
 
   -- ---- an index chunk

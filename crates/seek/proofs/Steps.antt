@@ -20,7 +20,7 @@ use Rattle.entries.specs.declared.Item.the-variants.{Good, Bad}
 use Rattle.entries.proofs.Laws.{item-inside, item-named, item-unnamed}
 use Rattle.entries.specs.declared.Kind.{Kind}
 use Rattle.entries.specs.declared.Kind.the-variants.{Listing, Index}
-use Rattle.chunk.specs.Chunk.{withItem, countOf}
+use Rattle.chunk.specs.Chunk.{withItem, countOf, countPlace}
 use Rattle.seek.specs.Seek.{Stand, byOrder, findAt, chooseAt, childOf, afterAt}
 use Rattle.seek.specs.Count.{comparedAt, walked}
 use Rattle.seek.specs.declared.CountedHit.{CountedHit}
@@ -151,10 +151,10 @@ module _ (limits : Limits) (k : Kind) (s : List ℕ) (left at : ℕ) where
 
 -- ---- a chunk that has a count has its bytes in front of the count's last
 
-pub counted : (s : List ℕ) → 0 < countOf s → 4094 < length s
+pub counted : (s : List ℕ) → 0 < countOf s → countPlace < length s
 counted s h =
-    elim (decLe (length s) 4094) [
-      | yes l ↦ absurd (omega (arith, h, le-past 2 s 4094 l))
+    elim (decLe (length s) countPlace) [
+      | yes l ↦ absurd (omega (arith, h, le-past 2 s countPlace l))
       | no l ↦ omega arith
     ]
 

@@ -6,7 +6,7 @@ use native.Mathlib.Omega.{arith}
 use lib.ListN.{length}
 use denote.Ref.{now}
 use Rattle.names.specs.Names.{compared}
-use Rattle.chunk.specs.Chunk.{countOf, spacingOf}
+use Rattle.chunk.specs.Chunk.{countOf, spacingOf, countPlace}
 use Rattle.chunk.proofs.Quick.{capped}
 use Rattle.seek.specs.Seek.{groupAt, groupAbove, halved, groupIn, sizeIn}
 use Rattle.seek.specs.Count.{halvings, halvingsIn}
@@ -33,7 +33,7 @@ returns c =
     rw (z .0, z .1) (c .first-place .ensures, omega (arith, t .before .entry-count .ensures), refl)
 
 -- the chunk has its count
-has-count : (c : tie.Else1) → 4094 < length (now (c .before .before .before .before .args .c))
+has-count : (c : tie.Else1) → countPlace < length (now (c .before .before .before .before .args .c))
 has-count c = counted (now (c .before .before .before .before .args .c)) (omega (arith, c .before .entry-count .ensures, c .if1 .left))
 
 spacing-requires : tie.Need-spacing-requires
