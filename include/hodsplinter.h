@@ -63,7 +63,7 @@ uint64_t hods_own(const uint8_t *file, size_t len, const uint64_t record[HODS_RE
 
 /* 0 and the entries of one listing chunk, five numbers each, with next[0] their count and next[1] the next chunk's number; 255 where there are too few
    places for them, with nothing changed (4,070 always do); or the refusal. */
-uint64_t hods_chunk(const uint8_t *file, size_t len, const uint64_t record[HODS_RECORD], uint64_t chunk, uint64_t *entries, size_t numbers, uint64_t next[2]);
+uint64_t hods_chunk_page(const uint8_t *file, size_t len, const uint64_t record[HODS_RECORD], uint64_t chunk, uint64_t *entries, size_t numbers, uint64_t next[2]);
 
 /* Two books side by side, by the section Comparison of docs/FORMAT.md. The cursor is two walks along a chain of five numbers each, then four totals. 0, and the
    cursor at the start. */

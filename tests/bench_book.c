@@ -24,7 +24,7 @@ static size_t list_all(const uint8_t *file, size_t len, const uint64_t *record, 
     uint64_t chunk = record[8], next[2];
     size_t count = 0;
     while (chunk != 0xFFFFFFFFu) {
-        if (hods_chunk(file, len, record, chunk, page, 4070, next)) { fprintf(stderr, "listing refused\n"); exit(1); }
+        if (hods_chunk_page(file, len, record, chunk, page, 4070, next)) { fprintf(stderr, "listing refused\n"); exit(1); }
         for (uint64_t i = 0; i < next[0]; i++, count++)
             if (count < room) { names[2 * count] = page[5 * i]; names[2 * count + 1] = page[5 * i + 1]; }
         chunk = next[1];
@@ -215,7 +215,7 @@ static int compare_best(const char *what, const struct book *one, const struct b
 static struct book the_book, the_less;
 
 static void *call_open(void *x) { hods_open(the_book.file, the_book.len, the_book.record); return x; }
-static void *call_page(void *x) { uint64_t next[2]; hods_chunk(the_book.file, the_book.len, the_book.record, the_book.record[8], page, 4070, next); return x; }
+static void *call_page(void *x) { uint64_t next[2]; hods_chunk_page(the_book.file, the_book.len, the_book.record, the_book.record[8], page, 4070, next); return x; }
 static void *call_lookup(void *x) { uint32_t trail[5]; uint64_t answer[HODS_LOOKUP]; hods_lookup(the_book.file, the_book.len, the_book.record, (const uint8_t *)"~", 1, trail, 5, answer); return x; }
 static void *call_scan(void *x) { uint64_t answer[5]; hods_scan(the_book.file, the_book.len, the_book.record, (const uint8_t *)"~", 1, answer); return x; }
 static void *call_opened(void *x) { uint64_t answer[5]; hods_lookup_opened(the_book.file, the_book.len, the_book.record, (const uint8_t *)"~", 1, answer); return x; }

@@ -20,7 +20,7 @@ static size_t gather(uint8_t *to, size_t step) {
     uint64_t next[2];
     size_t size = 0, count = 0;
     for (uint64_t chunk = record[8]; chunk != 0xFFFFFFFFu; chunk = next[1]) {
-        if (hods_chunk(book, book_len, record, chunk, page, 4070, next)) fail("listing refused");
+        if (hods_chunk_page(book, book_len, record, chunk, page, 4070, next)) fail("listing refused");
         for (uint64_t *e = page; e < page + 5 * next[0]; e += 5) {
             size_t front = encint_len(e[1]), len = front + e[1] + encint_len(e[2]) + encint_len(e[3]) + encint_len(e[4]);
             if (step && ++count % step == 0) continue;
@@ -138,7 +138,7 @@ void measure_scan(void) {
 void measure_list(void) {
     uint64_t next[2], sum = 0;
     for (uint64_t chunk = record[8]; chunk != 0xFFFFFFFFu; chunk = next[1]) {
-        if (hods_chunk(book, book_len, record, chunk, page, 4070, next)) fail("listing refused");
+        if (hods_chunk_page(book, book_len, record, chunk, page, 4070, next)) fail("listing refused");
         for (uint64_t *e = page; e < page + 5 * next[0]; e += 5) sum += e[3] + e[4] + book[e[0] + e[1] - 1];
     }
     kept += sum;

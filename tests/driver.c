@@ -108,7 +108,7 @@ static void ask_page(void) {
     uint64_t next[2] = {88, 88}, chunk = number(), sum = 0;
     size_t places = (size_t)number();
     for (int i = 0; i < 4200; i++) out[i] = 77;
-    printf("%" PRIu64, hods_chunk(file, len, record, chunk, out, places, next));
+    printf("%" PRIu64, hods_chunk_page(file, len, record, chunk, out, places, next));
     show(next, 2);
     for (size_t i = 0; i < 4200; i++) sum = sum * 31 + out[i];
     printf(" %" PRIu64, sum);

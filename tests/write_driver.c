@@ -51,7 +51,7 @@ static int reads_back(const uint8_t *head, size_t head_len, size_t content, cons
     for (size_t i = head_len; i < size; i++) book[i] = pattern(i);
     int good = hods_open(book, size, record) == 0;
     for (uint64_t chunk = record[8]; good && chunk != 0xFFFFFFFFu; chunk = next[1]) {
-        good = hods_chunk(book, size, record, chunk, page, 4070, next) == 0;
+        good = hods_chunk_page(book, size, record, chunk, page, 4070, next) == 0;
         for (uint64_t i = 0; good && i < next[0]; i++) {
             const uint64_t *told = page + 5 * i;
             uint8_t entry[2048];

@@ -1,5 +1,4 @@
 -- The names, one behind another: what stands at a place, and how many there are.
--- Assumes nothing.
 use mathlib.Core.Path.{_≡_, refl, ap, _∙_}
 use mathlib.Core.Bool.{cond}
 use mathlib.Core.List.{List}
@@ -12,7 +11,7 @@ use Rattle.encint.specs.Encint.{encintAt}
 use Rattle.encint.specs.declared.Number.the-variants.{Value, Bad}
 use Rattle.encint.proofs.Reading.{encint-next, bad-no-value}
 use Rattle.entries.proofs.Laws.{number-passed, test-passed}
-use Rattle.batch.specs.Batch.{Names, noMore, cut, push, askedAt, namesFrom, namesIn}
+use Rattle.batch.specs.Batch.{Names, noMore, cutOff, nameThen, askedAt, namesFrom, namesIn}
 use Rattle.batch.specs.Step.{countedAs}
 use Rattle.batch.specs.declared.Counted.the-variants.{All, Cut}
 
@@ -37,13 +36,13 @@ module _ (s : List ℕ) where
   names-end zero at h = rw (le-ltb at (length s) h) refl
   names-end (suc f) at h = rw (le-ltb at (length s) h) refl
 
-  pub names-cut : (f at : ℕ) → at < length s → askedAt s at ≡ Bad → namesFrom s f at ≡ cut
+  pub names-cut : (f at : ℕ) → at < length s → askedAt s at ≡ Bad → namesFrom s f at ≡ cutOff
   unfolding namesFrom
   names-cut zero at h g = rw (lt-ltb at (length s) h) refl
   names-cut (suc f) at h g = rw (lt-ltb at (length s) h, g) refl
 
   pub names-more : (f at n p : ℕ) → at < length s → length s ≤ at + f → askedAt s at ≡ Value n p
-      → namesFrom s f at ≡ push (part s p n) (namesFrom s (f - 1) (p + n))
+      → namesFrom s f at ≡ nameThen (part s p n) (namesFrom s (f - 1) (p + n))
   unfolding namesFrom
   names-more f at n p h l g =
       let z : f ≡ suc (f - 1) = omega arith in
@@ -51,7 +50,7 @@ module _ (s : List ℕ) where
 
 -- ---- their count
 
-counted-push : (n : ℕ) (x : List ℕ) (ns : Names) → countedAs n (push x ns) ≡ countedAs (n + 1) ns
+counted-push : (n : ℕ) (x : List ℕ) (ns : Names) → countedAs n (nameThen x ns) ≡ countedAs (n + 1) ns
 counted-push n x ns = ap (λ (k : ℕ). cond (ns .whole) (All k) Cut) (let z : n + suc (length (ns .list)) ≡ n + 1 + length (ns .list) = omega arith in z)
 
 -- n names were counted, and the rest stands from a place on
@@ -74,7 +73,7 @@ module _ (s : List ℕ) (n at : ℕ) (c : Counting s n at) where
 
   pub counting-cut : at < length s → askedAt s at ≡ Bad → Cut ≡ countedAs 0 (namesIn s)
   counting-cut h g =
-      let e : countedAs n (namesFrom s (c .most) at) ≡ countedAs n cut = ap (countedAs n) (names-cut s (c .most) at h g) in
+      let e : countedAs n (namesFrom s (c .most) at) ≡ countedAs n cutOff = ap (countedAs n) (names-cut s (c .most) at h g) in
       rw e at (c .whole)
 
   pub counting-more : (k p : ℕ) → at < length s → askedAt s at ≡ Value k p → Counting s (n + 1) (p + k)

@@ -3,7 +3,6 @@
 --     batch-rest      the bytes behind the answers are as they were
 --     batch-status    a status is 0, 255 or 15
 --     batch-refusal   a refusal is opening's, or 22 with no chunk
--- Assumes nothing.
 use mathlib.Core.Path.{_≡_, refl, sym, ap, _∙_}
 use mathlib.Core.Logic.{_⊎_, inl, inr}
 use mathlib.Core.Bool.{Bool, true, false, cond}
@@ -21,7 +20,7 @@ use Rattle.refusals.specs.declared.Refusal.{Refusal}
 use Rattle.names.specs.Names.{askable}
 use Rattle.header.specs.declared.Record.{Record}
 use Rattle.tree.specs.Descent.{Outcome, found, absent, refused}
-use Rattle.tree.proofs.Demanded.{demand-3}
+use Rattle.tree.proofs.LookupExact.{lookup-exact}
 use Rattle.book.specs.Book.{directoryOf, shapeOf}
 use Rattle.opening.specs.Opened.{opened}
 use Rattle.opening.specs.Refusals.{Told}
@@ -118,7 +117,7 @@ pub batch-status : (s : List ℕ) (book : Record) (name : List ℕ) → opened s
 unfolding repliedTo
 batch-status s book name o =
     let b = opened-book s book o in
-    let d = demand-3 (directoryOf s book) (shapeOf book) (b .directory) name in
+    let d = lookup-exact (directoryOf s book) (shapeOf book) (b .directory) name in
     rw (looked-reply s book name 5 (omega arith), b .fits) (go (askable name) (outcomeIn s book name) refl (d .never-refused))
   where
     go : (t : Bool) (x : Outcome) → outcomeIn s book name ≡ x → (outcomeIn s book name ≡ refused → ⊥)

@@ -1,5 +1,4 @@
 -- Many names in one call (FORMAT, Batch): the names, the result of each, and what the call answers and writes.
--- Assumes nothing.
 use mathlib.Core.Bool.{Bool, true, false, cond, _&&_}
 use mathlib.Core.List.{List, [], _∷_, flatMap}
 use Prim.Native.Nat.{ℕ, zero, suc, _+_, _*_}
@@ -35,11 +34,11 @@ pub record Names : Type 0 where
 abbrev pub noMore : Names
 noMore = record { list = []; whole = true }
 
-abbrev pub cut : Names
-cut = record { list = []; whole = false }
+abbrev pub cutOff : Names
+cutOff = record { list = []; whole = false }
 
-abbrev pub push : List ℕ → Names → Names
-push x ns = record { list = x ∷ ns .list; whole = ns .whole }
+abbrev pub nameThen : List ℕ → Names → Names
+nameThen x ns = record { list = x ∷ ns .list; whole = ns .whole }
 
 -- an ENCINT of a length, any value (B3), with as many bytes behind it: that length, and the place behind the ENCINT
 unfoldable pub askedAt : List ℕ → ℕ → Number
@@ -47,9 +46,9 @@ askedAt s at = withNumber (encintAt s at) Number.Bad (λ n start. cond (inside s
 
 -- n names at most from a place on
 unfoldable pub namesFrom : List ℕ → ℕ → ℕ → Names
-namesFrom s zero at = cond (ltb at (length s)) cut noMore
+namesFrom s zero at = cond (ltb at (length s)) cutOff noMore
 namesFrom s (suc n) at =
-    cond (ltb at (length s)) (withNumber (askedAt s at) cut (λ len start. push (part s start len) (namesFrom s n (start + len)))) noMore
+    cond (ltb at (length s)) (withNumber (askedAt s at) cutOff (λ len start. nameThen (part s start len) (namesFrom s n (start + len)))) noMore
 
 -- all of them, from the first byte to the last: each takes a byte at least
 abbrev pub namesIn : List ℕ → Names

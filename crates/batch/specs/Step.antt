@@ -1,5 +1,4 @@
 -- How the code goes: names are counted, and a name is asked in the opened book without another check. Nobody has to believe these.
--- Assumes nothing.
 use mathlib.Core.Bool.{cond}
 use mathlib.Core.List.{List, flatMap}
 use Prim.Native.Nat.{ℕ, _+_}

@@ -1,6 +1,5 @@
 -- A chunk that has its 4,096 bytes lies inside the file, and what was read in it is reported as its entry says; what a
 -- record that can be asked has.
--- Assumes nothing.
 use mathlib.Core.Path.{_≡_, refl, sym, ap, _∙_}
 use mathlib.Core.Bool.{true, _&&_}
 use mathlib.Core.List.{List}
@@ -16,10 +15,10 @@ use Rattle.fields.proofs.Parts.{length-part, part-inside, part-outside, part-sm
 use Rattle.entries.specs.declared.Place.{Place}
 use Rattle.entries.specs.declared.Kind.{Kind}
 use Rattle.chunk.specs.Chunk.{entryOf, isKind}
-use Rattle.chunk.proofs.Accepted.{accepted}
+use Rattle.chunk.proofs.Accepted.{chunk-accepted}
 use Rattle.directory_header.specs.DirectoryHeader.{within}
 use Rattle.header.specs.declared.Record.{Record}
-use Rattle.book.specs.Book.{limitsOf, chunkPlace, chunkBytes, directoryOf, bookFits, reportOf, reportAt, ownOf, ownAt}
+use Rattle.book.specs.Book.{limitsOf, chunkPlace, chunkBytes, directoryOf, recordFits, reportOf, reportAt, ownOf, ownAt}
 
 module _ (s : List ℕ) (r : Record) (c : ℕ) where
   pub chunk-inside : length (chunkBytes s r c) ≡ 4096 → chunkPlace r c + 4096 ≤ length s
@@ -42,7 +41,7 @@ module _ (s : List ℕ) (r : Record) (c : ℕ) where
   -- a chunk of either kind has its bytes
   pub chunk-whole : (k : Kind) → isKind k (directoryOf s r c) ≡ true → length (chunkBytes s r c) ≡ 4096
   unfolding directoryOf
-  chunk-whole k h = accepted (limitsOf s r) k (chunkBytes s r c) h .size
+  chunk-whole k h = chunk-accepted (limitsOf s r) k (chunkBytes s r c) h .size
 
   pub report-entry : (p : Place) → length (chunkBytes s r c) ≡ 4096 → p .start + p .len ≤ 4096 → reportAt s r c p ≡ reportOf r c (entryOf (chunkBytes s r c) p)
   unfolding reportAt reportOf
@@ -84,8 +83,8 @@ pub record RecordFits (s : List ℕ) (r : Record) : Type 0 where
   pub few-chunks : r .count ≤ 4096
   pub content-inside : r .content ≤ length s
 
-pub fits-told : (s : List ℕ) (r : Record) → bookFits s r ≡ true → RecordFits s r
-unfolding bookFits
+pub fits-told : (s : List ℕ) (r : Record) → recordFits s r ≡ true → RecordFits s r
+unfolding recordFits
 fits-told s r h =
     let levels = within 1 5 (r .depth) in
     let chunks = within 1 4096 (r .count) in
@@ -104,12 +103,12 @@ fits-told s r h =
       content-inside = leb-true (r .content) (length s) (e .1);
     }
 
-pub fits-made : (s : List ℕ) (r : Record) → RecordFits s r → bookFits s r ≡ true
-unfolding bookFits
+pub fits-made : (s : List ℕ) (r : Record) → RecordFits s r → recordFits s r ≡ true
+unfolding recordFits
 fits-made s r f =
     simp (le-leb (r .density) 7 (f .dense), le-leb 1 (r .depth) (f .some-levels), le-leb (r .depth) 5 (f .few-levels), le-leb 1 (r .count) (f .some-chunks), le-leb (r .count) 4096 (f .few-chunks), le-leb (r .content) (length s) (f .content-inside))
 
 -- of the file only its length counts
-pub fits-same : (s t : List ℕ) (r : Record) → length s ≡ length t → bookFits s r ≡ bookFits t r
-unfolding bookFits
+pub fits-same : (s t : List ℕ) (r : Record) → length s ≡ length t → recordFits s r ≡ recordFits t r
+unfolding recordFits
 fits-same s t r h = rw h refl

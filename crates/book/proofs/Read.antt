@@ -1,5 +1,4 @@
 -- The entries of a listing chunk that passed its check, as they are read: their count, each behind the one before it, and what is reported of them.
--- Assumes nothing.
 use mathlib.Core.Path.{_≡_, refl, sym, ap, _∙_}
 use mathlib.Core.Bool.{Bool, true, false, cond}
 use mathlib.Core.List.{List, _∷_}
@@ -20,8 +19,8 @@ use Rattle.entries.specs.declared.Item.the-variants.{Good, Bad}
 use Rattle.entries.proofs.Laws.{item-inside}
 use Rattle.entries.proofs.Padded.{entry-stands}
 use Rattle.entries.specs.declared.Kind.the-variants.{Listing}
-use Rattle.chunk.specs.Chunk.{Entry, all, entryOf, entriesAt, countOf, tailOf, spacingOf, entriesIn, headOf}
-use Rattle.chunk.proofs.Accepted.{Accepted, accepted, entries-more, entries-count}
+use Rattle.chunk.specs.Chunk.{Entry, all, entryOf, entriesAt, entryCount, tailLength, spacingOf, entriesIn, firstPlace}
+use Rattle.chunk.proofs.Accepted.{Accepted, chunk-accepted, entries-more, entries-count}
 use Rattle.seek.specs.Seek.{absent, found, nth, soughtOf, afterAt, groupAt, nthIn}
 use Rattle.seek.specs.declared.Hit.the-variants.{At, Nothing}
 use Rattle.seek.proofs.Steps.{nth-read}
@@ -68,10 +67,10 @@ module _ (s : List ℕ) (book : Record) (c : ℕ) (is : isListing (directoryOf s
 
   good : Accepted limits Listing bytes es
   unfolding directoryOf
-  good = accepted limits Listing bytes is
+  good = chunk-accepted limits Listing bytes is
 
-  pub entries-length : length es ≡ countOf bytes
-  entries-length = entries-count limits Listing bytes (4096 - tailOf bytes) (countOf bytes) (headOf Listing) es (good .entries)
+  pub entries-length : length es ≡ entryCount bytes
+  entries-length = entries-count limits Listing bytes (4096 - tailLength bytes) (entryCount bytes) (firstPlace Listing) es (good .entries)
 
   pub entries-some : 0 < length es
   entries-some = let l = entries-length in let g = good .some in omega arith
@@ -80,14 +79,14 @@ module _ (s : List ℕ) (book : Record) (c : ℕ) (is : isListing (directoryOf s
   entries-few =
       let z = good .size in
       let l = entries-length in
-      let f = entries-fit limits bytes (4096 - tailOf bytes) (countOf bytes) (headOf Listing) es (good .entries) (omega arith) in
+      let f = entries-fit limits bytes (4096 - tailLength bytes) (entryCount bytes) (firstPlace Listing) es (good .entries) (omega arith) in
       omega arith
 
   -- all of them are left at first
-  pub entries-left : entriesAt limits Listing bytes (4096 - tailOf bytes) (countOf bytes - 0) (headOf Listing) ≡ all es
-  entries-left = let z : countOf bytes - 0 ≡ countOf bytes = omega arith in rw z (good .entries)
+  pub entries-left : entriesAt limits Listing bytes (4096 - tailLength bytes) (entryCount bytes - 0) (firstPlace Listing) ≡ all es
+  entries-left = let z : entryCount bytes - 0 ≡ entryCount bytes = omega arith in rw z (good .entries)
 
-  pub entries-read : entriesAt limits Listing bytes (4096 - tailOf bytes) (length es) (headOf Listing) ≡ all es
+  pub entries-read : entriesAt limits Listing bytes (4096 - tailLength bytes) (length es) (firstPlace Listing) ≡ all es
   entries-read = rw entries-length (good .entries)
 
   -- what was read is reported as its entry says
@@ -108,7 +107,7 @@ module _ (s : List ℕ) (book : Record) (c : ℕ) (is : isListing (directoryOf s
 
   -- entry i as it is found
   pub nth-hit : (i : ℕ) (e : Place) → nthIn limits Listing bytes i ≡ At e
-      → (i < countOf bytes) × (nth i es ≡ found (entryOf bytes e)) × (reportAt s book c e ≡ reportOf book c (entryOf bytes e))
+      → (i < entryCount bytes) × (nth i es ≡ found (entryOf bytes e)) × (reportAt s book c e ≡ reportOf book c (entryOf bytes e))
   unfolding directoryOf
   nth-hit i e h =
       let r = nth-read limits Listing bytes i e h in

@@ -1,6 +1,5 @@
 -- What a search over the bytes of a chunk finds: on any bytes a name that stands where it is reported to; in a chunk that passes its check what is
 -- sought among its entries. And what a search in one listing chunk tells.
--- Assumes nothing.
 use mathlib.Core.Path.{_≡_, refl, sym, ap, ap₂, _∙_}
 use mathlib.Core.Bool.{Bool, true, false, cond}
 use mathlib.Core.List.{List}
@@ -17,8 +16,8 @@ use Rattle.entries.specs.Entry.{nameOf}
 use Rattle.entries.specs.declared.Place.{Place}
 use Rattle.entries.specs.declared.Kind.{Kind}
 use Rattle.entries.specs.declared.Kind.the-variants.{Listing, Index}
-use Rattle.chunk.specs.Chunk.{Entry, entryOf, entriesIn}
-use Rattle.seek.specs.Seek.{Sought, lookup, soughtOf, findIn, chooseIn}
+use Rattle.chunk.specs.Chunk.{Entry, entryOf, entriesIn, countPlace}
+use Rattle.seek.specs.Seek.{Sought, entryNamed, soughtOf, findIn, chooseIn}
 use Rattle.seek.specs.Count.{costIn}
 use Rattle.seek.specs.declared.Hit.{Hit}
 use Rattle.seek.specs.declared.Hit.the-variants.{At, Nothing}
@@ -86,7 +85,7 @@ module _ (s : List ℕ) (book : Record) (name : List ℕ) (c : ℕ) where
   cost-fits : (k : Kind) → costIn (limitsOf s book) k (chunkBytes s book c) (compared name) ≡ costAt s book name c → ((i : ℕ) → getD s i 0 < 256)
       → costAt s book name c < 0x20000
   cost-fits k q bytes =
-      let f = cost-small (limitsOf s book) k (chunkBytes s book c) (compared name) (le-lt (chunkBytes s book c) (chunk-small s book c bytes) 2 4094) in
+      let f = cost-small (limitsOf s book) k (chunkBytes s book c) (compared name) (le-lt (chunkBytes s book c) (chunk-small s book c bytes) 2 countPlace) in
       omega (arith, f, q)
 
   -- ---- an index chunk
@@ -108,7 +107,7 @@ module _ (s : List ℕ) (book : Record) (name : List ℕ) (c : ℕ) where
   module _ (h : listingChunk (directoryOf s book) (shapeOf book) c ≡ true) where
     -- what a search over its bytes finds is an entry of its meaning
     pub found-in : (x : Hit) → findIn (limitsOf s book) (chunkBytes s book c) (compared name) ≡ x
-        → lookup name (entriesIn (directoryOf s book c)) ≡ soughtOf (chunkBytes s book c) x
+        → entryNamed name (entriesIn (directoryOf s book c)) ≡ soughtOf (chunkBytes s book c) x
     unfolding directoryOf
     found-in x q =
         sym (find-good (limitsOf s book) (chunkBytes s book c) name (listing-chunk (directoryOf s book) (shapeOf book) c h .1))
@@ -142,17 +141,17 @@ module _ (s : List ℕ) (book : Record) (name : List ℕ) (c : ℕ) where
   abbrev pub Tells : Search → Type 0
   Tells (Found n x) =
       (listingChunk (directoryOf s book) (shapeOf book) c ≡ true)
-      × (e : Entry) × (lookup name (entriesIn (directoryOf s book c)) ≡ Sought.found e) × (reportOf book c e ≡ x) × (costAt s book name c ≡ n)
+      × (e : Entry) × (entryNamed name (entriesIn (directoryOf s book c)) ≡ Sought.found e) × (reportOf book c e ≡ x) × (costAt s book name c ≡ n)
   Tells (Next n next) =
       (listingChunk (directoryOf s book) (shapeOf book) c ≡ true)
-      × (lookup name (entriesIn (directoryOf s book c)) ≡ Sought.absent) × (nextOf (directoryOf s book c) ≡ next) × (costAt s book name c ≡ n)
+      × (entryNamed name (entriesIn (directoryOf s book c)) ≡ Sought.absent) × (nextOf (directoryOf s book c) ≡ next) × (costAt s book name c ≡ n)
   Tells Barred = listingChunk (directoryOf s book) (shapeOf book) c ≡ false
 
   pub search-told : (x : Search) → searchIn s book name c ≡ x → Tells x
   unfolding searchIn
-  search-told x q = rw (← q) (go (listingChunk (directoryOf s book) (shapeOf book) c) refl (lookup name (entriesIn (directoryOf s book c))) refl)
+  search-told x q = rw (← q) (go (listingChunk (directoryOf s book) (shapeOf book) c) refl (entryNamed name (entriesIn (directoryOf s book c))) refl)
     where
-      go : (t : Bool) → listingChunk (directoryOf s book) (shapeOf book) c ≡ t → (o : Sought) → lookup name (entriesIn (directoryOf s book c)) ≡ o
+      go : (t : Bool) → listingChunk (directoryOf s book) (shapeOf book) c ≡ t → (o : Sought) → entryNamed name (entriesIn (directoryOf s book c)) ≡ o
           → Tells (cond t (searchOf book c (nextOf (directoryOf s book c)) (costAt s book name c) o) Barred)
       go true h (Sought.found e) k = (h, e, k, refl, refl)
       go true h Sought.absent k = (h, k, refl, refl)

@@ -1,6 +1,5 @@
 -- A file as a directory: where its chunks stand, and what they mean, by the numbers of a record. The record may be made up; a chunk that does
 -- not lie wholly inside the file has no bytes, and so is no chunk (FORMAT D19, F16, K2, K13).
--- Assumes nothing.
 use Prim.Native.Nat.{ℕ, _+_, _-_, _*_}
 use mathlib.Core.Path.{_≡_}
 use mathlib.Core.Bool.{Bool, cond, _&&_}
@@ -43,12 +42,12 @@ abbrev pub shapeOf : Record → Shape
 shapeOf r = record { count = r .count; depth = r .depth; root = r .root; first = r .first; last = r .last }
 
 -- a record that can be asked, also a made-up one (K12)
-unfoldable pub bookFits : List ℕ → Record → Bool
-bookFits s r = leb (r .density) 7 && (within 1 5 (r .depth) && (within 1 4096 (r .count) && leb (r .content) (length s)))
+unfoldable pub recordFits : List ℕ → Record → Bool
+recordFits s r = leb (r .density) 7 && (within 1 5 (r .depth) && (within 1 4096 (r .count) && leb (r .content) (length s)))
 
 -- what chunk number c leads to: a chunk below the count, or refusal 17 (K13)
-unfoldable pub metChunk : List ℕ → Record → ℕ → Chunk
-metChunk s r c = cond (ltb c (r .count)) (chunkOf (directoryOf s r c)) (Refused 17)
+unfoldable pub checkedChunk : List ℕ → Record → ℕ → Chunk
+checkedChunk s r c = cond (ltb c (r .count)) (chunkOf (directoryOf s r c)) (Refused 17)
 
 -- the five numbers of an entry of chunk c (K6): its name's place in the file and length; section, offset, length
 unfoldable pub reportOf : Record → ℕ → Entry → Report

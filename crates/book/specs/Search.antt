@@ -1,6 +1,5 @@
 -- What the search for a name in one chunk comes to, in a file read by any record, with how many comparisons it makes, and what a report of a name that was
 -- found is worth.
--- Assumes nothing.
 use mathlib.Core.Path.{_≡_}
 use mathlib.Core.Bool.{true, cond}
 use mathlib.Core.List.{List}
@@ -10,7 +9,7 @@ use Rattle.fields.specs.Part.{part}
 use Rattle.names.specs.Names.{compared, matches}
 use Rattle.entries.specs.declared.Kind.the-variants.{Listing, Index}
 use Rattle.chunk.specs.Chunk.{spacingOf, entriesIn}
-use Rattle.seek.specs.Seek.{Sought, lookup, findIn, chooseIn, childOf}
+use Rattle.seek.specs.Seek.{Sought, entryNamed, findIn, chooseIn, childOf}
 use Rattle.seek.specs.Count.{comparisons, costIn}
 use Rattle.seek.specs.declared.CountedChild.{CountedChild}
 use Rattle.seek.specs.declared.Hit.{Hit}
@@ -58,7 +57,7 @@ searchOf book c next n Sought.absent = Next n next
 unfoldable pub searchIn : List ℕ → Record → List ℕ → ℕ → Search
 searchIn s book name c =
     cond (listingChunk (directoryOf s book) (shapeOf book) c)
-    (searchOf book c (nextOf (directoryOf s book c)) (costAt s book name c) (lookup name (entriesIn (directoryOf s book c))))
+    (searchOf book c (nextOf (directoryOf s book c)) (costAt s book name c) (entryNamed name (entriesIn (directoryOf s book c))))
     Barred
 
 -- ---- what a report is worth

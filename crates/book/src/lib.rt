@@ -3,7 +3,7 @@ ghost use mathlib.Core.Path.{_≡_};
 ghost use mathlib.Core.Bool.{cond};
 ghost use Prim.Native.Nat.{_+_, _-_, _/_};
 ghost use lib.Dec.{leb};
-ghost use Rattle.book.specs.Book.{limitsOf, chunkBytes, chunkPlace, shapeOf, bookFits, metChunk, reportAt, ownAt};
+ghost use Rattle.book.specs.Book.{limitsOf, chunkBytes, chunkPlace, shapeOf, recordFits, checkedChunk, reportAt, ownAt};
 ghost use Rattle.book.specs.Search.{findingIn, childIn, searchIn};
 ghost use Rattle.tree.specs.Tree.{top};
 use chunk::Chunk;
@@ -43,8 +43,8 @@ pub enum Search {
 }
 
 // Whether a record can be asked; it may be made up.
-pub fn fits(file: &[u8], book: Record) -> bool
-    ensures { λ r. ⌜ r ≡ bookFits (now (file .entry)) book ⌝ }
+pub fn record_fits(file: &[u8], book: Record) -> bool
+    ensures { λ r. ⌜ r ≡ recordFits (now (file .entry)) book ⌝ }
 {
     if 7 < book.density {
         return false;
@@ -121,8 +121,8 @@ pub fn top_chunk(book: Record) -> u64
 }
 
 // What chunk number c leads to: a chunk, checked whole, or a refusal.
-pub fn met(file: &[u8], book: Record, c: u64) -> Chunk
-    ensures { λ r. ⌜ r ≡ metChunk (now (file .entry)) book c ⌝ }
+pub fn checked_chunk(file: &[u8], book: Record, c: u64) -> Chunk
+    ensures { λ r. ⌜ r ≡ checkedChunk (now (file .entry)) book c ⌝ }
 {
     if book.count <= c {
         return Chunk::Refused(17);
@@ -207,7 +207,7 @@ pub fn child_in(file: &[u8], book: Record, name: &[u8], c: u64) -> CountedChild
 pub fn search_in(file: &[u8], book: Record, name: &[u8], c: u64) -> Search
     ensures { λ r. ⌜ r ≡ searchIn (now (file .entry)) book (now (name .entry)) c ⌝ }
 {
-    let Chunk::Listing(_, next) = met(file, book, c) else {
+    let Chunk::Listing(_, next) = checked_chunk(file, book, c) else {
         return Search::Barred;
     };
     match find_in(file, book, name, c) {

@@ -1,5 +1,4 @@
 -- The chunk of the sample book (FORMAT W16) means what its entries say; and how many quick words there are at density 2 (FORMAT C14).
--- Assumes nothing.
 use mathlib.Core.Path.{_≡_, refl}
 use mathlib.Core.List.{List, [], _∷_, _++_}
 use Prim.Native.Nat.{ℕ}
@@ -12,7 +11,7 @@ use Rattle.names.specs.Names.{folded, compared, below}
 use Rattle.entries.specs.Entry.{nameAt, listingAt, itemAt}
 use Rattle.entries.specs.declared.Limits.{Limits}
 use Rattle.entries.specs.Rising.{rising}
-use Rattle.chunk.specs.Chunk.{listing, spacingOf, quickCount, entriesAt, quick, quickAt, framed, judged, parsedAs, parsed}
+use Rattle.chunk.specs.Chunk.{listing, spacingOf, quickCount, entriesAt, quick, quickAt, framed, checkedEntries, parsedAs, parsed}
 
 unfoldable pub sample : List ℕ
 sample =
@@ -26,7 +25,7 @@ limits = record { density = 2; count = 1; content = 5 }
 pub sample-parsed : parsed limits sample ≡ listing 0xFFFFFFFF 0xFFFFFFFF
     (record { at = 20; start = 21; name = 0x2F ∷ []; section = 0; offset = 0; size = 0; child = 0; next = 25 }
     ∷ record { at = 25; start = 26; name = 0x2F ∷ 0x61 ∷ 0x2E ∷ 0x68 ∷ 0x74 ∷ 0x6D ∷ []; section = 0; offset = 0; size = 5; child = 0; next = 35 } ∷ [])
-unfolding parsed parsedAs framed judged entriesAt itemAt listingAt nameAt encintAt decoded rest rising quick quickAt below compared byElement byNumber folded standsAt same le sample limits
+unfolding parsed parsedAs framed checkedEntries entriesAt itemAt listingAt nameAt encintAt decoded rest rising quick quickAt below compared byElement byNumber folded standsAt same le sample limits
 sample-parsed = refl
 
 pub words-at-density-2 : (quickCount (spacingOf 2) 5 ≡ 0) × (quickCount (spacingOf 2) 6 ≡ 1) × (quickCount (spacingOf 2) 11 ≡ 2)

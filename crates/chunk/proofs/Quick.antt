@@ -1,5 +1,4 @@
 -- Quick words: an entry's index by words and entries past a word; the spacing that the code uses for a high density; each word on its own.
--- Assumes nothing.
 use mathlib.Core.Path.{_≡_, refl, sym, ap, _∙_}
 use mathlib.Core.List.{List, [], _∷_}
 use mathlib.Core.Bool.{true, or-true}

@@ -4,7 +4,6 @@
 --     turn        an entry that was read moves it on
 --     turn-bad    what is no entry settles it
 --     at-end      behind the last entry it is read off the flags
--- Assumes nothing.
 use mathlib.Core.Path.{_≡_, refl, sym, ap, _∙_}
 use mathlib.Core.List.{List, []}
 use mathlib.Core.Bool.{Bool, true, false, cond, _&&_, and-assoc}
@@ -19,7 +18,7 @@ use Rattle.entries.specs.declared.Item.the-variants.{Good, Bad}
 use Rattle.entries.specs.declared.Kind.{Kind}
 use Rattle.entries.specs.declared.Kind.the-variants.{Listing, Index}
 use Rattle.entries.specs.Rising.{rising}
-use Rattle.chunk.specs.Chunk.{Entry, Entries, broken, all, bad, made, push, entryOf, entriesAt, quick, quickAt, headOf, judged, entryName}
+use Rattle.chunk.specs.Chunk.{Entry, Entries, broken, all, bad, parsedWith, entryThen, entryOf, entriesAt, quick, quickAt, firstPlace, checkedEntries, entryName}
 use Rattle.chunk.specs.Answer.{chunkOf}
 use Rattle.chunk.specs.declared.Chunk.{Chunk}
 use Rattle.chunk.specs.declared.Chunk.the-variants.{Refused}
@@ -27,21 +26,21 @@ use Rattle.chunk.specs.declared.Chunk.the-variants.{Refused}
 module _ (n : ℕ) (k : Kind) (s : List ℕ) where
   unfoldable pub outcome : Bool → Bool → ℕ → List ℕ → Entries → Chunk
   outcome o q i last broken = Refused 10
-  outcome o q i last (all es) = cond (o && rising entryName last es) (cond (q && quick s n (headOf k) i es) (chunkOf (made k s [])) (Refused 11)) (Refused 12)
+  outcome o q i last (all es) = cond (o && rising entryName last es) (cond (q && quick s n (firstPlace k) i es) (chunkOf (parsedWith k s [])) (Refused 11)) (Refused 12)
 
-  pub at-start : (r : Entries) → outcome true true 0 [] r ≡ chunkOf (judged n k s r)
-  unfolding outcome judged
+  pub at-start : (r : Entries) → outcome true true 0 [] r ≡ chunkOf (checkedEntries n k s r)
+  unfolding outcome checkedEntries
   at-start broken = refl
-  at-start (all es) = go (rising entryName [] es) (quick s n (headOf k) 0 es) k
+  at-start (all es) = go (rising entryName [] es) (quick s n (firstPlace k) 0 es) k
     where
-      go : (a b : Bool) (j : Kind) → cond a (cond b (chunkOf (made j s [])) (Refused 11)) (Refused 12) ≡ chunkOf (cond a (cond b (made j s es) (bad 11)) (bad 12))
+      go : (a b : Bool) (j : Kind) → cond a (cond b (chunkOf (parsedWith j s [])) (Refused 11)) (Refused 12) ≡ chunkOf (cond a (cond b (parsedWith j s es) (bad 11)) (bad 12))
       go true true Listing = refl
       go true true Index = refl
       go true false j = refl
       go false b j = refl
 
   pushed : (o q : Bool) (i : ℕ) (last : List ℕ) (e : Entry) (r : Entries)
-      → outcome o q i last (push e r) ≡ outcome (o && below last (e .name)) (q && quickAt s n (headOf k) i (e .at)) (i + 1) (e .name) r
+      → outcome o q i last (entryThen e r) ≡ outcome (o && below last (e .name)) (q && quickAt s n (firstPlace k) i (e .at)) (i + 1) (e .name) r
   unfolding outcome rising quick
   pushed o q i last e broken = refl
   pushed o q i last e (all es) = simp and-assoc
@@ -53,7 +52,7 @@ module _ (n : ℕ) (k : Kind) (s : List ℕ) where
 
     pub turn : (e : Place) → 0 < left → itemAt limits k s at ≡ Good e
         → outcome o q i last (entriesAt limits k s end left at)
-        ≡ outcome (o && below last (nameOf s e)) (q && quickAt s n (headOf k) i (e .at)) (i + 1) (nameOf s e) (entriesAt limits k s end (left - 1) (e .next))
+        ≡ outcome (o && below last (nameOf s e)) (q && quickAt s n (firstPlace k) i (e .at)) (i + 1) (nameOf s e) (entriesAt limits k s end (left - 1) (e .next))
     unfolding entriesAt
     turn e h g = ap (outcome o q i last) (some-left h) ∙ rw g (pushed o q i last (entryOf s e) (entriesAt limits k s end (left - 1) (e .next)))
 
@@ -61,11 +60,11 @@ module _ (n : ℕ) (k : Kind) (s : List ℕ) where
     unfolding entriesAt outcome
     turn-bad h g = sym (ap (outcome o q i last) (some-left h) ∙ rw g refl)
 
-    pub at-end : left ≤ 0 → outcome o q i last (entriesAt limits k s end left at) ≡ cond (eqb at end) (cond o (cond q (chunkOf (made k s [])) (Refused 11)) (Refused 12)) (Refused 10)
+    pub at-end : left ≤ 0 → outcome o q i last (entriesAt limits k s end left at) ≡ cond (eqb at end) (cond o (cond q (chunkOf (parsedWith k s [])) (Refused 11)) (Refused 12)) (Refused 10)
     unfolding entriesAt outcome rising quick
     at-end h = let z : left ≡ 0 = omega arith in rw z (go (eqb at end) o q)
       where
-        go : (a b c : Bool) → outcome b c i last (cond a (all []) broken) ≡ cond a (cond b (cond c (chunkOf (made k s [])) (Refused 11)) (Refused 12)) (Refused 10)
+        go : (a b c : Bool) → outcome b c i last (cond a (all []) broken) ≡ cond a (cond b (cond c (chunkOf (parsedWith k s [])) (Refused 11)) (Refused 12)) (Refused 10)
         go true true true = refl
         go true true false = refl
         go true false c = refl

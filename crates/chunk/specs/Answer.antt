@@ -1,5 +1,4 @@
 -- What the answer on a whole chunk says of its meaning.
--- Assumes nothing.
 use Rattle.chunk.specs.Chunk.{Parsed, bad, listing, index}
 use Rattle.chunk.specs.declared.Chunk.{Chunk}
 use Rattle.chunk.specs.declared.Chunk.the-variants.{Refused, Listing, Index}

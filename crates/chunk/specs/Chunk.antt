@@ -1,5 +1,4 @@
 -- The meaning of a chunk's bytes: what the rules on a chunk by itself make of them (FORMAT, Chunk).
--- Assumes nothing.
 use Prim.Native.Nat.{ℕ, zero, suc, _+_, _-_, _*_, _/_, _%_, _^_}
 use mathlib.Core.List.{List, [], _∷_}
 use mathlib.Core.Bool.{Bool, true, false, cond, _&&_, _||_}
@@ -48,21 +47,21 @@ abbrev pub kindOf : List ℕ → Kind
 kindOf s = cond (standsAt s 0 (tagOf Listing)) Listing Index
 
 -- the length of the header, behind which the first entry stands (C1, C2, C3)
-abbrev pub headOf : Kind → ℕ
-headOf Listing = 20
-headOf Index = 8
+abbrev pub firstPlace : Kind → ℕ
+firstPlace Listing = 20
+firstPlace Index = 8
 
 -- where the count of entries stands: the chunk's last 16 bits (C4)
 abbrev pub countPlace : ℕ
 countPlace = 4094
 
 -- the count of entries
-abbrev pub countOf : List ℕ → ℕ
-countOf s = le 2 s countPlace
+abbrev pub entryCount : List ℕ → ℕ
+entryCount s = le 2 s countPlace
 
 -- the length of the tail
-abbrev pub tailOf : List ℕ → ℕ
-tailOf s = le 4 s 4
+abbrev pub tailLength : List ℕ → ℕ
+tailLength s = le 4 s 4
 
 -- of a listing chunk, the number of the one before it and of the one behind it (C1)
 abbrev pub previousLink : List ℕ → ℕ
@@ -81,7 +80,7 @@ quickCount n c = (c - 1) / n
 
 -- there is an entry; the tail has room for the count and the quick words, and leaves room for the header: refusal 9
 unfoldable pub framed : ℕ → Kind → List ℕ → Bool
-framed n k s = ltb 0 (countOf s) && (leb (2 + 2 * quickCount n (countOf s)) (tailOf s) && leb (tailOf s) (4096 - headOf k))
+framed n k s = ltb 0 (entryCount s) && (leb (2 + 2 * quickCount n (entryCount s)) (tailLength s) && leb (tailLength s) (4096 - firstPlace k))
 
 -- ---- the entries: refusal 10
 
@@ -95,14 +94,14 @@ abbrev pub entryOf : List ℕ → Place → Entry
 entryOf s e =
     record { at = e .at; start = e .start; name = nameOf s e; section = e .section; offset = e .offset; size = e .size; child = e .child; next = e .next }
 
-abbrev pub push : Entry → Entries → Entries
-push e broken = broken
-push e (all es) = all (e ∷ es)
+abbrev pub entryThen : Entry → Entries → Entries
+entryThen e broken = broken
+entryThen e (all es) = all (e ∷ es)
 
 -- n entries one behind another from a place on, the last of which ends at `end`
 unfoldable pub entriesAt : Limits → Kind → List ℕ → ℕ → ℕ → ℕ → Entries
 entriesAt limits k s end zero at = cond (eqb at end) (all []) broken
-entriesAt limits k s end (suc n) at = withItem (itemAt limits k s at) broken (λ e. push (entryOf s e) (entriesAt limits k s end n (e .next)))
+entriesAt limits k s end (suc n) at = withItem (itemAt limits k s at) broken (λ e. entryThen (entryOf s e) (entriesAt limits k s end n (e .next)))
 
 -- ---- the quick words: refusal 11
 
@@ -124,19 +123,19 @@ quick s n first i (e ∷ es) = quickAt s n first i (e .at) && quick s n first (i
 
 -- ---- a whole chunk: the checks in their order, 8, 9, 10, 12, 11
 
-abbrev pub made : Kind → List ℕ → List Entry → Parsed
-made Listing s es = listing (previousLink s) (nextLink s) es
-made Index s es = index es
+abbrev pub parsedWith : Kind → List ℕ → List Entry → Parsed
+parsedWith Listing s es = listing (previousLink s) (nextLink s) es
+parsedWith Index s es = index es
 
 -- entries that were read, by the rules on all of them: their names rise, refusal 12, and their quick words are right, refusal 11
-unfoldable pub judged : ℕ → Kind → List ℕ → Entries → Parsed
-judged n k s broken = bad 10
-judged n k s (all es) = cond (rising entryName [] es) (cond (quick s n (headOf k) 0 es) (made k s es) (bad 11)) (bad 12)
+unfoldable pub checkedEntries : ℕ → Kind → List ℕ → Entries → Parsed
+checkedEntries n k s broken = bad 10
+checkedEntries n k s (all es) = cond (rising entryName [] es) (cond (quick s n (firstPlace k) 0 es) (parsedWith k s es) (bad 11)) (bad 12)
 
 -- a chunk of 4,096 bytes of a known kind, with n entries from one quick word to the next
 unfoldable pub parsedAs : ℕ → Limits → Kind → List ℕ → Parsed
 parsedAs n limits k s =
-    cond (framed n k s) (judged n k s (entriesAt limits k s (4096 - tailOf s) (countOf s) (headOf k))) (bad 9)
+    cond (framed n k s) (checkedEntries n k s (entriesAt limits k s (4096 - tailLength s) (entryCount s) (firstPlace k))) (bad 9)
 
 -- any bytes as a chunk
 unfoldable pub parsed : Limits → List ℕ → Parsed

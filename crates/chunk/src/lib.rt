@@ -7,7 +7,7 @@ ghost use lib.ListN.{length};
 ghost use Rattle.fields.specs.Part.{part};
 ghost use Rattle.names.specs.Names.{below};
 ghost use Rattle.fields.specs.Same.{standsAt};
-ghost use Rattle.chunk.specs.Chunk.{tagOf, kindOf, headOf, countOf, previousLink, nextLink, quickPlace, spacingOf, quickCount, entriesAt, made, judged, parsedAs, parsed};
+ghost use Rattle.chunk.specs.Chunk.{tagOf, kindOf, firstPlace, entryCount, previousLink, nextLink, quickPlace, spacingOf, quickCount, entriesAt, parsedWith, checkedEntries, parsedAs, parsed};
 ghost use Rattle.chunk.specs.Marks.{markRight};
 ghost use Rattle.chunk.specs.Answer.{chunkOf};
 use entries::Item;
@@ -57,7 +57,7 @@ pub fn kind_of(c: &[u8]) -> Kind
 
 // Where the first entry stands, which is behind the header.
 pub fn first_place(kind: Kind) -> usize
-    ensures { λ r. ⌜ r ≡ headOf kind ⌝ }
+    ensures { λ r. ⌜ r ≡ firstPlace kind ⌝ }
 {
     match kind {
         Kind::Listing => 20,
@@ -67,7 +67,7 @@ pub fn first_place(kind: Kind) -> usize
 
 // The number of entries, as stored.
 pub fn entry_count(c: &[u8]) -> u16
-    ensures { λ r. ⌜ r ≡ countOf (now (c .entry)) ⌝ }
+    ensures { λ r. ⌜ r ≡ entryCount (now (c .entry)) ⌝ }
 {
     fields::le16(c, COUNT_PLACE)
 }
@@ -165,7 +165,7 @@ fn still_quick(c: &[u8], quick: bool, first: usize, m: Mark, at: usize) -> bool
 
 // The answer on a chunk that keeps every rule.
 fn good_chunk(c: &[u8], kind: Kind) -> Chunk
-    ensures { λ r. ⌜ r ≡ chunkOf (made kind (now (c .entry)) []) ⌝ }
+    ensures { λ r. ⌜ r ≡ chunkOf (parsedWith kind (now (c .entry)) []) ⌝ }
 {
     match kind {
         Kind::Listing => Chunk::Listing(previous_link(c), next_link(c)),
@@ -176,7 +176,7 @@ fn good_chunk(c: &[u8], kind: Kind) -> Chunk
 // The answer by `total` entries that have to end at `end`: refusal 10, 12 or 11, in this order. So the walk goes on past a fault of order or of a quick word.
 fn check_entries(c: &[u8], limits: Limits, kind: Kind, n: usize, total: usize, end: usize) -> Chunk
     requires { ⌜ (0 < n) × (2 * ((total - 1) / n) ≤ 4094) ⌝ }
-    ensures { λ r. ⌜ r ≡ chunkOf (judged n kind (now (c .entry)) (entriesAt limits kind (now (c .entry)) end total (headOf kind))) ⌝ }
+    ensures { λ r. ⌜ r ≡ chunkOf (checkedEntries n kind (now (c .entry)) (entriesAt limits kind (now (c .entry)) end total (firstPlace kind))) ⌝ }
 {
     let first = first_place(kind);
     let mut at = first;

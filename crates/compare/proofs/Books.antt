@@ -1,5 +1,4 @@
 -- What is read along the chain of a book that opens: all its entries, to the end, in the order of their names; and they are few.
--- Assumes nothing.
 use mathlib.Core.Path.{_≡_, sym, ap, _∙_}
 use mathlib.Core.List.{List, [], _∷_, map}
 use Prim.Native.Nat.{ℕ, _<_, _^_}
@@ -7,7 +6,7 @@ use native.Mathlib.Omega.{arith}
 use lib.ListN.{length, length-map}
 use Rattle.chunk.specs.Chunk.{Parsed}
 use Rattle.header.specs.declared.Record.{Record}
-use Rattle.header.proofs.Accepted.{accepted}
+use Rattle.header.proofs.Accepted.{header-accepted}
 use Rattle.tree.specs.Lists.{Each}
 use Rattle.tree.specs.Chain.{chain, chainEntries}
 use Rattle.tree.specs.Reading.{Held, heldOf}
@@ -58,7 +57,7 @@ module _ (s : List ℕ) (book : Record) (o : opened s ≡ Book book) where
   book-few =
       let k = opened-book s book o in
       let l = listed D (shapeOf book) (good-filled D (shapeOf book) (k .directory .chunks)) (k .directory .chain-passes) in
-      let high = accepted s book (k .head) .count-high in
+      let high = header-accepted s book (k .head) .count-high in
       let a = chain-short D (book .count) (book .first) in
       let b = entries-short D 4096 (chain D (shapeOf book)) (λ c m. entries-few s book c (l .chunks c .0 m .1)) in
       omega arith

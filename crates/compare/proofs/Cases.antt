@@ -1,5 +1,4 @@
 -- What one name gives, by what comes next in each book: one law for each case of the course.
--- Assumes nothing.
 use mathlib.Core.Path.{_≡_, refl, sym, ap, ap₂, _∙_}
 use mathlib.Core.Bool.{true, false}
 use mathlib.Core.List.{List}

@@ -1,5 +1,4 @@
 -- What a comparison of two books that open is worth: `books-compared`.
--- Assumes nothing.
 use mathlib.Core.Path.{_≡_, refl, sym, ap, subst, _∙_}
 use mathlib.Core.Bool.{true}
 use mathlib.Core.List.{List}

@@ -1,5 +1,4 @@
 -- The totals of a course: as long as they do not pass 64 bits they are how many pairs there are of each kind; and the kinds add up to the entries of each list.
--- Assumes nothing.
 use mathlib.Core.Path.{_≡_, refl, ap, _∙_}
 use mathlib.Core.Bool.{Bool, true, false, cond, not}
 use mathlib.Core.List.{List, [], _∷_}

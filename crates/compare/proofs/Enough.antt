@@ -1,5 +1,4 @@
 -- How many names a step may go over is no limit: any number above what the first walk can still come to gives the same step.
--- Assumes nothing.
 use mathlib.Core.Path.{_≡_, refl, sym, _∙_}
 use mathlib.Core.List.{List}
 use Prim.Native.Nat.{ℕ, zero, suc, _<_}

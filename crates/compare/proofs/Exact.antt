@@ -1,5 +1,4 @@
 -- A comparison is exact, whatever the bytes and the records are: the steps from its start tell the differences of its course, and then how it ends.
--- Assumes nothing.
 use mathlib.Core.Path.{_≡_, refl, sym, ap, subst, _∙_}
 use mathlib.Core.Logic.{_⊎_, inl, inr, ⊎-elim, _≢_}
 use mathlib.Core.List.{List, [], _∷_, _++_}

@@ -1,5 +1,4 @@
 -- Two small readings side by side: names that differ only in case are one name, and case alone is no difference.
--- Assumes nothing.
 use mathlib.Core.Path.{_≡_, refl}
 use mathlib.Core.Bool.{true}
 use mathlib.Core.List.{List, [], _∷_}

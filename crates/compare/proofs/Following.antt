@@ -1,5 +1,4 @@
 -- The steps of a comparison follow its course: a run of steps tells the differences of what two walks read, and then how it ends.
--- Assumes nothing.
 use mathlib.Core.Path.{_≡_, refl, ap, _∙_}
 use mathlib.Core.Bool.{Bool, true, false, cond}
 use mathlib.Core.List.{List, [], _∷_, map}

@@ -1,5 +1,4 @@
 -- Two lists side by side, both to their ends, step by step (`Merges`); so the course ends well, and each entry of each list comes once, in its order.
--- Assumes nothing.
 use mathlib.Core.Path.{_≡_, refl, ap}
 use mathlib.Core.Bool.{true}
 use mathlib.Core.List.{List, [], _∷_}

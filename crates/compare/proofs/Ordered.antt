@@ -1,5 +1,4 @@
 -- The pairs of two lists that rise: what each is made of, and that their names rise, so that each name comes once.
--- Assumes nothing.
 use mathlib.Core.Path.{_≡_, refl, sym, subst}
 use mathlib.Core.Logic.{inl, inr}
 use mathlib.Core.Bool.{true}

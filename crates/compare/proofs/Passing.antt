@@ -1,5 +1,4 @@
 -- Passing over a name that is the same in both books, inside their chunks, leaves the step as it is.
--- Assumes nothing.
 use mathlib.Core.Path.{_≡_, refl, sym, _∙_}
 use mathlib.Core.Bool.{true}
 use mathlib.Core.List.{List}
@@ -8,7 +7,7 @@ use native.Mathlib.Omega.{arith}
 use Rattle.entries.specs.Entry.{itemAt}
 use Rattle.entries.specs.declared.Place.{Place}
 use Rattle.header.specs.declared.Record.{Record}
-use Rattle.book.specs.Book.{limitsOf, chunkBytes, bookFits}
+use Rattle.book.specs.Book.{limitsOf, chunkBytes, recordFits}
 use Rattle.walk.specs.Walk.{afterOf, nameHere, weight}
 use Rattle.walk.specs.declared.Walk.{Walk}
 use Rattle.walk.proofs.Entering.{peek-here}
@@ -36,7 +35,7 @@ module _ (s₁ : List ℕ) (b₁ : Record) (s₂ : List ℕ) (b₂ : Record) whe
 
   -- ---- a name that is the same, inside both chunks
 
-  pub same-passed : bookFits s₁ b₁ ≡ true → bookFits s₂ b₂ ≡ true → (w₁ w₂ : Walk) (t : Totals) (x y : Place) → 0 < w₁ .left → 0 < w₂ .left
+  pub same-passed : recordFits s₁ b₁ ≡ true → recordFits s₂ b₂ ≡ true → (w₁ w₂ : Walk) (t : Totals) (x y : Place) → 0 < w₁ .left → 0 < w₂ .left
       → SameEntries (limitsOf s₁ b₁ .content) (chunkBytes s₁ b₁ (w₁ .chunk)) (w₁ .at) (limitsOf s₂ b₂ .content) (chunkBytes s₂ b₂ (w₂ .chunk)) (w₂ .at) x y
       → turned s₁ b₁ s₂ b₂ (bothAt w₁ w₂ t) ≡ On (bothAt (afterOf w₁ x) (afterOf w₂ y) (oneSame t))
   unfolding turned besideFirst paired inBoth nameHere itemAt

@@ -1,5 +1,4 @@
 -- A step's refusal is 17 of no chunk, beside the number of one of the two books: `step-refusal`.
--- Assumes nothing.
 use mathlib.Core.Path.{_≡_, refl, subst}
 use mathlib.Core.Logic.{_⊎_}
 use mathlib.Core.Bool.{Bool, true, false, cond}

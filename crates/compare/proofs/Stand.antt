@@ -1,5 +1,4 @@
 -- How an entry stands to those of a list that rises, by how it stands to the first.
--- Assumes nothing.
 use mathlib.Core.Path.{_≡_, ap}
 use mathlib.Core.Logic.{inl, inr}
 use mathlib.Core.Bool.{false}

@@ -1,6 +1,5 @@
 -- A step goes from name to name: what one name tells ends it. Each name leaves the two books with fewer entries to come (`turn-falls`, `step-falls`); one with
 -- nothing to tell leaves the first with fewer.
--- Assumes nothing.
 use mathlib.Core.Path.{_≡_, refl, sym, subst}
 use mathlib.Core.Logic.{⊎-elim}
 use mathlib.Core.Bool.{Bool, true, false, cond}

@@ -1,5 +1,4 @@
 -- What one name can give, by cases, whatever the bytes, the records and the cursor are: `turn-cases`.
--- Assumes nothing.
 use mathlib.Core.Path.{_≡_, refl}
 use mathlib.Core.Logic.{_⊎_, inl, inr}
 use mathlib.Core.List.{List}

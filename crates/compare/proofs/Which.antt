@@ -1,5 +1,4 @@
 -- Which pair a name is in, in two lists that rise: only in the first where the second lacks it, only in the second where the first does, in both where both have it.
--- Assumes nothing.
 use mathlib.Core.Path.{_≡_, refl, sym, ap, ap₂, _∙_}
 use mathlib.Core.Logic.{inl, inr, ⊎-elim}
 use mathlib.Core.Bool.{true, false}

@@ -1,5 +1,4 @@
 -- The cursor over two books: one name after another, and a step, which goes on to the next difference. For any bytes, records and cursors.
--- Assumes nothing.
 use Prim.Native.Nat.{ℕ, zero, suc, _+_, _<_}
 use mathlib.Core.Bool.{Bool, cond, _&&_}
 use mathlib.Core.List.{List}

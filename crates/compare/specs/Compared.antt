@@ -1,5 +1,4 @@
 -- What the steps of a comparison tell, over any two files and records; and what it is worth on two books that open.
--- Assumes nothing.
 use Prim.Native.Nat.{ℕ, zero, suc, _+_}
 use mathlib.Core.Path.{_≡_}
 use mathlib.Core.Logic.{_↔_, _≢_}

@@ -1,5 +1,4 @@
 -- What a comparison is: two readings side by side, in the order of names.
--- Assumes nothing.
 use Prim.Native.Nat.{ℕ, _+_, _%_, _^_}
 use mathlib.Core.Bool.{Bool, false, cond, _&&_}
 use mathlib.Core.List.{List, [], _∷_}

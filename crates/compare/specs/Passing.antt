@@ -1,6 +1,5 @@
 -- A means of the comparison: entries that are the same in both books, read beside each other, and what it is to pass over them. No contract of a public
 -- function speaks of it.
--- Assumes nothing.
 use Prim.Native.Nat.{ℕ, _≤_}
 use mathlib.Core.Path.{_≡_}
 use mathlib.Core.Bool.{true}

@@ -5,7 +5,7 @@ ghost use mathlib.Core.Logic.{_≢_};
 ghost use mathlib.Core.List.{List};
 ghost use Prim.Native.Nat.{ℕ};
 ghost use Rattle.refusals.specs.declared.Refusal.{Refusal};
-ghost use Rattle.book.specs.Book.{bookFits};
+ghost use Rattle.book.specs.Book.{recordFits};
 ghost use Rattle.opening.specs.Opened.{opened};
 ghost use Rattle.opening.specs.declared.Opened.the-variants.{Book};
 ghost use Rattle.compare.specs.Course.{oneMore, oneFirst, oneSecond, oneSame, oneChanged};
@@ -314,8 +314,8 @@ fn same_entries(c1: &[u8], at1: u64, content1: u64, c2: &[u8], at2: u64, content
 // Goes over names that are the same as long as both walks stay inside their chunks. Nothing but the two entries is read for it, and this is what a
 // comparison of two issues does most.
 fn pass_inside(file1: &[u8], one: Record, file2: &[u8], two: Record, from: Cursor) -> Cursor
-    requires { ⌜ bookFits (now file1) one ≡ true ⌝ }
-    requires { ⌜ bookFits (now file2) two ≡ true ⌝ }
+    requires { ⌜ recordFits (now file1) one ≡ true ⌝ }
+    requires { ⌜ recordFits (now file2) two ≡ true ⌝ }
     ensures { λ r. ⌜ Passed (now (file1 .entry)) one (now (file2 .entry)) two from r ⌝ }
 {
     let mut first = from.first;
@@ -354,10 +354,10 @@ fn pass_inside(file1: &[u8], one: Record, file2: &[u8], two: Record, from: Curso
 fn pass_same(file1: &[u8], one: Record, file2: &[u8], two: Record, from: Cursor) -> Cursor
     ensures { λ r. ⌜ Passed (now (file1 .entry)) one (now (file2 .entry)) two from r ⌝ }
 {
-    if !book::fits(file1, one) {
+    if !book::record_fits(file1, one) {
         return from;
     }
-    if !book::fits(file2, two) {
+    if !book::record_fits(file2, two) {
         return from;
     }
     pass_inside(file1, one, file2, two, from)

@@ -1,5 +1,4 @@
 -- The loop that writes the entries of a chunk: what holds where some are written (`Putting`), and what a turn finds and leaves.
--- Assumes nothing.
 use mathlib.Core.Path.{_≡_, refl, sym, ap, ap₂, _∙_}
 use mathlib.Core.List.{List, [], _∷_, _++_, map, flatMap}
 use Prim.Native.Nat.{ℕ, zero, suc, _+_, _-_, _*_, _/_, _≤_, _<_}
@@ -8,7 +7,7 @@ use lib.ListN.{length, take, drop, replicate, length-append, length-drop, length
 use lib.Seq.{sets}
 use Rattle.entries.specs.declared.Place.{Place}
 use Rattle.entries.specs.declared.Kind.{Kind}
-use Rattle.chunk.specs.Chunk.{headOf, countPlace, quickPlace}
+use Rattle.chunk.specs.Chunk.{firstPlace, countPlace, quickPlace}
 use Rattle.chunk.proofs.Frame.{head-small}
 use Rattle.entries.specs.Stored.{Stored, storedOf, entryBytes}
 use Rattle.source.specs.Source.{itemFrom, rowsFrom}
@@ -61,7 +60,7 @@ module _ (content : ℕ) (s starts : List ℕ) (k : Kind) (all from n : ℕ) whe
 
   -- the chunk with i of them
   abbrev made : ℕ → List ℕ
-  made i = partly k n (replicate (headOf k) 0) (replicate 2 0) group i
+  made i = partly k n (replicate (firstPlace k) 0) (replicate 2 0) group i
 
   -- what f says is taken, and it is written
   pub record Putting (out : List ℕ) (f : Extent) : Type 0 where
@@ -81,7 +80,7 @@ module _ (content : ℕ) (s starts : List ℕ) (k : Kind) (all from n : ℕ) whe
         others = refl;
         size = refl;
         whole = refl;
-        is = h ∙ zeros (length out) (headOf k) l (head-small k) ∙ partly-start k n (replicate (headOf k) 0) (replicate 2 0) group;
+        is = h ∙ zeros (length out) (firstPlace k) l (head-small k) ∙ partly-start k n (replicate (firstPlace k) 0) (replicate 2 0) group;
       }
 
   module _ (out : List ℕ) (f : Extent) (p : Putting out f) where
@@ -90,7 +89,7 @@ module _ (content : ℕ) (s starts : List ℕ) (k : Kind) (all from n : ℕ) whe
     putting-end h =
         let l : f .count ≤ length group = omega (arith, p .there, length-map (rows all from) (storedOf s)) in (
           sym (full content s starts k n (f .count) (f .bytes) (f .left) (f .at) h) ∙ p .whole,
-          p .is ∙ partly-end k n (replicate (headOf k) 0) (replicate 2 0) group (f .count) l ∙ ap (entriesOnly k n) (sym (map-take (storedOf s) (f .count) (rows all from))),
+          p .is ∙ partly-end k n (replicate (firstPlace k) 0) (replicate 2 0) group (f .count) l ∙ ap (entriesOnly k n) (sym (map-take (storedOf s) (f .count) (rows all from))),
         )
 
     module _ (e : Place) (m : ℕ) (t : Fitted content s starts k n (f .count) (f .bytes) (f .left) (f .at) e m) where
@@ -117,7 +116,7 @@ module _ (content : ℕ) (s starts : List ℕ) (k : Kind) (all from n : ℕ) whe
           )
 
       pub record Turn : Type 0 where
-        pub fits : headOf k + f .bytes + rowSize k e ≤ 4096
+        pub fits : firstPlace k + f .bytes + rowSize k e ≤ 4096
         pub near : f .bytes < 4096
         pub words : 2 * (i / n) ≤ countPlace
 
@@ -130,7 +129,7 @@ module _ (content : ℕ) (s starts : List ℕ) (k : Kind) (all from n : ℕ) whe
             words = omega (arith, t .room, ap (λ (j : ℕ). j / n) z);
           }
 
-      pub putting-more : (first : ℕ) (o₁ o₂ : List ℕ) → first ≡ headOf k → o₁ ≡ sets out (first + f .bytes) (entryBytes k (storedOf s e))
+      pub putting-more : (first : ℕ) (o₁ o₂ : List ℕ) → first ≡ firstPlace k → o₁ ≡ sets out (first + f .bytes) (entryBytes k (storedOf s e))
           → o₂ ≡ sets o₁ (quickPlace (i / n)) (markBytes n i (f .bytes)) → Putting o₂ (record { count = i + 1; bytes = m; at = e .next; left = f .left - 1 })
       putting-more first o₁ o₂ h w₁ w₂ =
           record {
@@ -144,5 +143,5 @@ module _ (content : ℕ) (s starts : List ℕ) (k : Kind) (all from n : ℕ) whe
                 ∙ ap (λ (o : List ℕ). sets o (quickPlace (i / n)) (markBytes n i (f .bytes))) w₁
                 ∙ ap₂ (λ (o : List ℕ) (a : ℕ). sets (sets o a (entryBytes k (storedOf s e))) (quickPlace (i / n)) (markBytes n i (f .bytes))) (p .is) (ap₂ _+_ h (p .size))
                 ∙ ap (λ (b : ℕ). sets (sets (made i) (entriesEnd k (take i group)) (entryBytes k (storedOf s e))) (quickPlace (i / n)) (markBytes n i b)) (p .size)
-                ∙ partly-turn k n (replicate (headOf k) 0) (replicate 2 0) group (length-replicate (headOf k) 0) i (storedOf s e) (map (storedOf s) (rows (f .left - 1) (e .next))) next-entry (omega (arith, t .room, next-size));
+                ∙ partly-turn k n (replicate (firstPlace k) 0) (replicate 2 0) group (length-replicate (firstPlace k) 0) i (storedOf s e) (map (storedOf s) (rows (f .left - 1) (e .next))) next-entry (omega (arith, t .room, next-size));
           }

@@ -1,6 +1,5 @@
 -- A whole chunk, from what it takes: its entries are there, and with their quick words they have room (`extent-told`); with a header and
 -- a count they are a chunk (`chunk-written`).
--- Assumes nothing.
 use mathlib.Core.Path.{_≡_, sym, ap, ap₂, subst, _∙_}
 use mathlib.Core.Bool.{true}
 use mathlib.Core.List.{List, [], _++_, append-assoc, append-nil}
@@ -14,7 +13,7 @@ use Rattle.fields.specs.Le.{bytes}
 use Rattle.fields.proofs.Le.{length-bytes}
 use Rattle.entries.specs.declared.Place.{Place}
 use Rattle.entries.specs.declared.Kind.{Kind}
-use Rattle.chunk.specs.Chunk.{headOf, quickCount, countPlace}
+use Rattle.chunk.specs.Chunk.{firstPlace, quickCount, countPlace}
 use Rattle.chunk.proofs.Frame.{head-small}
 use Rattle.entries.specs.Stored.{Stored, storedOf}
 use Rattle.source.specs.Source.{rowsFrom}
@@ -26,10 +25,10 @@ use Rattle.pack.specs.declared.Extent.{Extent}
 use Rattle.pack.proofs.Groups.{sizes, taken-le, taken-fits, sizes-long}
 use Rattle.pack.proofs.Sizes.{row-long}
 use Rattle.pack.proofs.Filling.{Extends, extent-is, fits-small}
-use Rattle.compose.specs.NewChunk.{chunkHead, runBytes, quickWords, tailBytes, entriesEnd, newChunk}
+use Rattle.compose.specs.NewChunk.{chunkHeader, runBytes, quickWords, tailBytes, entriesEnd, newChunk}
 use Rattle.compose.specs.Steps.{groupFrom, between, entriesOnly}
 use Rattle.compose.proofs.Composing.{run-sizes, length-quick}
-use Rattle.compose.proofs.Entries.{length-head}
+use Rattle.compose.proofs.Entries.{length-chunk-header}
 use Rattle.compose.proofs.Zeros.{into-front}
 
 -- ---- header and count take the place of zeros
@@ -39,7 +38,7 @@ module _ (k : Kind) (n : ℕ) (es : List Stored) (room : entriesEnd k es + (2 * 
   body : List ℕ
   body = runBytes k es ++ (replicate (countPlace - 2 * quickCount n (length es) - entriesEnd k es) 0 ++ quickWords k n es (quickCount n (length es)))
 
-  length-body : headOf k + length body ≡ countPlace
+  length-body : firstPlace k + length body ≡ countPlace
   unfolding body
   length-body = simp (length-append, length-replicate, length-quick k n es (quickCount n (length es))) (omega arith)
 
@@ -47,14 +46,14 @@ module _ (k : Kind) (n : ℕ) (es : List Stored) (room : entriesEnd k es + (2 * 
   unfolding between body
   between-body hd lt = simp append-assoc
 
-  in-place : (hd lt : List ℕ) → length hd ≡ headOf k → length lt ≡ 2 → sets (sets (entriesOnly k n es) 0 hd) countPlace lt ≡ between k n hd lt es
+  in-place : (hd lt : List ℕ) → length hd ≡ firstPlace k → length lt ≡ 2 → sets (sets (entriesOnly k n es) 0 hd) countPlace lt ≡ between k n hd lt es
   in-place hd lt lh ll =
       let z : List ℕ = replicate 2 0 in
-      let o : headOf k - length hd ≡ 0 = omega arith in
+      let o : firstPlace k - length hd ≡ 0 = omega arith in
       let q : 2 - length lt ≡ 0 = omega arith in
       let p : countPlace ≡ length (hd ++ body) = omega (arith, length-body, length-append hd body) in
-      ap (λ (l : List ℕ). sets (sets l 0 hd) countPlace lt) (between-body (replicate (headOf k) 0) z)
-      ∙ ap (λ (l : List ℕ). sets l countPlace lt) (into-front [] (headOf k) (body ++ z) hd (omega arith))
+      ap (λ (l : List ℕ). sets (sets l 0 hd) countPlace lt) (between-body (replicate (firstPlace k) 0) z)
+      ∙ ap (λ (l : List ℕ). sets l countPlace lt) (into-front [] (firstPlace k) (body ++ z) hd (omega arith))
       ∙ ap (λ (m : ℕ). sets (hd ++ (replicate m 0 ++ (body ++ z))) countPlace lt) o
       ∙ ap (λ (l : List ℕ). sets l countPlace lt) (sym (append-assoc hd body z))
       ∙ ap (λ (m : ℕ). sets ((hd ++ body) ++ z) m lt) p
@@ -65,10 +64,10 @@ module _ (k : Kind) (n : ℕ) (es : List Stored) (room : entriesEnd k es + (2 * 
       ∙ sym (between-body hd lt)
 
   framed : (prev next : ℕ)
-      → sets (sets (entriesOnly k n es) 0 (chunkHead k (4096 - entriesEnd k es) prev next)) countPlace (bytes 2 (length es)) ≡ newChunk k n prev next es
+      → sets (sets (entriesOnly k n es) 0 (chunkHeader k (4096 - entriesEnd k es) prev next)) countPlace (bytes 2 (length es)) ≡ newChunk k n prev next es
   unfolding newChunk tailBytes between
   framed prev next =
-      in-place (chunkHead k (4096 - entriesEnd k es) prev next) (bytes 2 (length es)) (length-head k (4096 - entriesEnd k es) prev next) (length-bytes 2 (length es))
+      in-place (chunkHeader k (4096 - entriesEnd k es) prev next) (bytes 2 (length es)) (length-chunk-header k (4096 - entriesEnd k es) prev next) (length-bytes 2 (length es))
 
 -- ---- what a chunk takes
 
@@ -86,7 +85,7 @@ module _ (content : ℕ) (s starts : List ℕ) (k : Kind) (left at n : ℕ) (f :
   count-is = omega (arith, told .count)
 
   none-fits : fits k n 0 0 ≡ true
-  none-fits = let l : headOf k + 0 + (2 * quickCount n 0 + 2) ≤ 4096 = omega (arith, zero-div n, head-small k) in le-leb _ _ l
+  none-fits = let l : firstPlace k + 0 + (2 * quickCount n 0 + 2) ≤ 4096 = omega (arith, zero-div n, head-small k) in le-leb _ _ l
 
   all-rows : All (Row s) (take m rows)
   all-rows = all-take m (rows-all content s starts k left at)
@@ -94,7 +93,7 @@ module _ (content : ℕ) (s starts : List ℕ) (k : Kind) (left at n : ℕ) (f :
   pub record Told : Type 0 where
     pub there : f .count ≤ length rows
     pub bytes : f .bytes ≡ length (runBytes k (groupFrom content s starts k left at (f .count)))
-    pub room : headOf k + f .bytes + (2 * quickCount n (f .count) + 2) ≤ 4096
+    pub room : firstPlace k + f .bytes + (2 * quickCount n (f .count) + 2) ≤ 4096
     pub few : f .count ≤ f .bytes
 
   pub extent-told : Told
@@ -120,14 +119,14 @@ module _ (content : ℕ) (s starts : List ℕ) (k : Kind) (left at n : ℕ) (f :
 
   -- header and count on the entries that were taken
   pub chunk-written : (prev next : ℕ) (out o : List ℕ) → out ≡ entriesOnly k n (groupFrom content s starts k left at (f .count))
-      → o ≡ sets (sets out 0 (chunkHead k (4096 - (headOf k + f .bytes)) prev next)) countPlace (bytes 2 (f .count))
+      → o ≡ sets (sets out 0 (chunkHeader k (4096 - (firstPlace k + f .bytes)) prev next)) countPlace (bytes 2 (f .count))
       → o ≡ newChunk k n prev next (groupFrom content s starts k left at (f .count))
   chunk-written prev next out o is₁ w =
       let g = groupFrom content s starts k left at (f .count) in
       let t = extent-told in
       w
-      ∙ ap (λ (x : List ℕ). sets (sets x 0 (chunkHead k (4096 - (headOf k + f .bytes)) prev next)) countPlace (bytes 2 (f .count))) is₁
-      ∙ ap₂ (λ (b c : ℕ). sets (sets (entriesOnly k n g) 0 (chunkHead k (4096 - (headOf k + b)) prev next)) countPlace (bytes 2 c)) (t .bytes) (sym group-length)
+      ∙ ap (λ (x : List ℕ). sets (sets x 0 (chunkHeader k (4096 - (firstPlace k + f .bytes)) prev next)) countPlace (bytes 2 (f .count))) is₁
+      ∙ ap₂ (λ (b c : ℕ). sets (sets (entriesOnly k n g) 0 (chunkHeader k (4096 - (firstPlace k + b)) prev next)) countPlace (bytes 2 c)) (t .bytes) (sym group-length)
       ∙ framed k n g group-room prev next
 
 -- ---- the length of a chunk
@@ -137,7 +136,7 @@ unfolding newChunk tailBytes
 length-chunk k n prev next es h =
     let q = quickCount n (length es) in
     let tail = 4096 - entriesEnd k es in
-    simp (length-append, length-replicate, length-bytes, length-quick k n es q, length-head k tail prev next) (omega arith)
+    simp (length-append, length-replicate, length-bytes, length-quick k n es q, length-chunk-header k tail prev next) (omega arith)
 
 pub length-extent : (content : ℕ) (s starts : List ℕ) (k : Kind) (left at n : ℕ) (f : Extent) → f ≡ extentFrom k n 0 0 at left (rowsFrom content s starts k left at)
     → (prev next : ℕ) → length (newChunk k n prev next (groupFrom content s starts k left at (f .count))) ≡ 4096

@@ -1,5 +1,4 @@
 -- A chunk in the making: what its parts leave in it.
--- Assumes nothing.
 use Prim.Native.Nat.{ℕ, _-_, _%_}
 use mathlib.Core.Bool.{cond, _&&_}
 use mathlib.Core.List.{List, [], _++_, map}
@@ -7,7 +6,7 @@ use lib.ListN.{length, take, replicate}
 use lib.Dec.{ltb, eqb}
 use Rattle.fields.specs.Le.{bytes}
 use Rattle.entries.specs.declared.Kind.{Kind}
-use Rattle.chunk.specs.Chunk.{headOf, quickCount, quickPlace}
+use Rattle.chunk.specs.Chunk.{firstPlace, quickCount, quickPlace}
 use Rattle.entries.specs.Stored.{Stored, storedOf}
 use Rattle.source.specs.Source.{rowsFrom}
 use Rattle.compose.specs.NewChunk.{runBytes, quickWords, entriesEnd}
@@ -28,4 +27,4 @@ between k n header last es =
 
 -- the same with zeros for header and count
 abbrev pub entriesOnly : Kind → ℕ → List Stored → List ℕ
-entriesOnly k n es = between k n (replicate (headOf k) 0) (replicate 2 0) es
+entriesOnly k n es = between k n (replicate (firstPlace k) 0) (replicate 2 0) es

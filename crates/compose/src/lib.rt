@@ -11,11 +11,11 @@ ghost use Rattle.fields.specs.Part.{inside, part};
 ghost use Rattle.fields.specs.Put.{put};
 ghost use Rattle.encint.specs.Encint.{encoded};
 ghost use Rattle.entries.specs.declared.Kind.the-variants.{Listing};
-ghost use Rattle.chunk.specs.Chunk.{headOf, countPlace, quickPlace};
+ghost use Rattle.chunk.specs.Chunk.{firstPlace, countPlace, quickPlace};
 ghost use Rattle.entries.specs.Stored.{storedOf, entryBytes};
 ghost use Rattle.source.specs.Source.{rowsFrom};
 ghost use Rattle.pack.specs.Fill.{rowSize, extentFrom};
-ghost use Rattle.compose.specs.NewChunk.{wordBytes, chunkHead, newChunk};
+ghost use Rattle.compose.specs.NewChunk.{wordBytes, chunkHeader, newChunk};
 ghost use Rattle.compose.specs.Steps.{markBytes, groupFrom, entriesOnly};
 use entries::Kind;
 use entries::Place;
@@ -108,7 +108,7 @@ fn put_entry(out: &mut [u8], at: usize, input: &[u8], kind: Kind, e: Place)
 }
 
 // Writes the quick word of entry i, which stands `offset` bytes behind the first, if it has one.
-fn mark(out: &mut [u8], i: usize, n: usize, offset: usize)
+fn put_quick_word(out: &mut [u8], i: usize, n: usize, offset: usize)
     requires { ⌜ (length (now out) ≡ 4096) × (2 * (i / n) ≤ countPlace) × (offset < 65536) ⌝ }
     ensures { λ _. ⌜ now (out .exit) ≡ sets (now (out .entry)) (quickPlace (i / n)) (markBytes n i offset) ⌝ }
 {
@@ -149,7 +149,7 @@ fn put_entries(
             return f;
         };
         put_entry(out, first + f.bytes, input, kind, e);
-        mark(out, f.count, n, f.bytes);
+        put_quick_word(out, f.count, n, f.bytes);
         f = Extent {
             count: f.count + 1,
             bytes,
@@ -160,9 +160,9 @@ fn put_entries(
 }
 
 // Writes the header of a chunk.
-fn put_head(out: &mut [u8], kind: Kind, tail: u32, prev: u32, next: u32)
-    requires { ⌜ headOf Listing ≤ length (now out) ⌝ }
-    ensures { λ _. ⌜ now (out .exit) ≡ sets (now (out .entry)) 0 (chunkHead kind tail prev next) ⌝ }
+fn put_chunk_header(out: &mut [u8], kind: Kind, tail: u32, prev: u32, next: u32)
+    requires { ⌜ firstPlace Listing ≤ length (now out) ⌝ }
+    ensures { λ _. ⌜ now (out .exit) ≡ sets (now (out .entry)) 0 (chunkHeader kind tail prev next) ⌝ }
 {
     match kind {
         Kind::Listing => {
@@ -178,10 +178,10 @@ fn put_head(out: &mut [u8], kind: Kind, tail: u32, prev: u32, next: u32)
 
 // Writes the header and the count of a chunk of `count` entries of `used` bytes.
 fn put_frame(out: &mut [u8], kind: Kind, used: usize, count: usize, prev: u32, next: u32)
-    requires { ⌜ (length (now out) ≡ 4096) × (headOf kind + used ≤ 4096) × (count < 65536) ⌝ }
-    ensures { λ _. ⌜ now (out .exit) ≡ sets (sets (now (out .entry)) 0 (chunkHead kind (4096 - (headOf kind + used)) prev next)) countPlace (bytes 2 count) ⌝ }
+    requires { ⌜ (length (now out) ≡ 4096) × (firstPlace kind + used ≤ 4096) × (count < 65536) ⌝ }
+    ensures { λ _. ⌜ now (out .exit) ≡ sets (sets (now (out .entry)) 0 (chunkHeader kind (4096 - (firstPlace kind + used)) prev next)) countPlace (bytes 2 count) ⌝ }
 {
-    put_head(
+    put_chunk_header(
         out,
         kind,
         (4096 - (chunk::first_place(kind) + used)) as u32,

@@ -1,5 +1,4 @@
 -- Where a comparison goes on, it has fewer entries to come to than before; so the program ends.
--- Assumes nothing.
 use mathlib.Core.Path.{_≡_, subst}
 use Prim.Native.Nat.{ℕ, _<_}
 use native.Mathlib.Omega.{arith}

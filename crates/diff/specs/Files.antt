@@ -1,5 +1,4 @@
 -- What becomes of a file that was read (FORMAT P7, P9).
--- Assumes nothing.
 use Prim.Native.Nat.{ℕ}
 use mathlib.Core.Bool.{cond}
 use mathlib.Core.List.{List}

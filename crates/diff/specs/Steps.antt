@@ -1,5 +1,4 @@
 -- Where the program goes on behind a step of the comparison: at the cursor of a difference, nowhere behind the end or a refusal.
--- Assumes nothing.
 use Rattle.compare.specs.declared.Step.{Step}
 use Rattle.compare.specs.declared.Step.the-variants.{First, Second, Changed, End, Refused}
 use Rattle.diff.specs.declared.Next.{Next}

@@ -1,5 +1,4 @@
 -- Comparison cursors, differences and the answers of a comparison as numbers for C.
--- Assumes nothing.
 use Prim.Native.Nat.{ℕ, _+_, _*_, _^_}
 use mathlib.Core.List.{List, [], _∷_, _++_}
 use lib.ListN.{getD}

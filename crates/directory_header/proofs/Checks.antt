@@ -1,6 +1,5 @@
 -- The checks of a directory's header in their order: both rules hold where it is good, and what it says is read from its bytes
 -- (`directory-rules`); where both hold, it is good (`directory-good`); a refusal has one of their numbers (`directory-refused`).
--- Assumes nothing.
 use mathlib.Core.Path.{_≡_, refl}
 use mathlib.Core.List.{List}
 use mathlib.Core.Bool.{Bool, true, false, cond}

@@ -1,5 +1,4 @@
 -- The directory's header: one test for each of the refusals 6 and 7, and what a header that passes says. d is the 84 bytes of the header.
--- Assumes nothing.
 use Prim.Native.Nat.{ℕ, _+_, _*_}
 use mathlib.Core.List.{List, [], _∷_}
 use mathlib.Core.Bool.{Bool, cond, not, _&&_, _||_}

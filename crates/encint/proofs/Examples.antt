@@ -1,10 +1,9 @@
 -- Examples of ENCINTs: numbers of one to nine bytes, with leading bytes 80 and without, and bytes that are refused.
--- Assumes nothing.
 use mathlib.Core.Path.{_≡_, refl}
 use mathlib.Core.List.{List, [], _∷_, _++_}
 use Prim.Native.Nat.{ℕ, _-_, _^_}
 use lib.ListN.{length, replicate}
-use Rattle.encint.specs.Encint.{rest, decoded, encintAt, groups, leading, encoded}
+use Rattle.encint.specs.Encint.{rest, decoded, encintAt, sevenBitGroups, leading, encoded}
 use Rattle.encint.specs.Padded.{padded}
 use Rattle.encint.specs.declared.Number.the-variants.{Value, Bad}
 
@@ -32,7 +31,7 @@ Refused [] = Unit {0}
 Refused (l ∷ ls) = (encintAt l 0 ≡ Bad) × Refused ls
 
 -- N9
-pub accepted :
+pub read-examples :
     Accepted
     ((0x00 ∷ []) is 0
     ∷ (0x7F ∷ []) is 127
@@ -47,8 +46,8 @@ pub accepted :
     ∷ behind 8 ((replicate 8 0x80 ++ (0x01 ∷ [])) is 1)
     ∷ behind 8 ((replicate 8 0x80 ++ (0x00 ∷ [])) is 0)
     ∷ [])
-unfolding rest decoded encintAt groups leading encoded
-accepted = (
+unfolding rest decoded encintAt sevenBitGroups leading encoded
+read-examples = (
   refl,
   refl,
   (
@@ -79,6 +78,6 @@ accepted = (
 )
 
 -- N10
-pub refused : Refused ((replicate 9 0x80 ++ (0x01 ∷ [])) ∷ (replicate 9 0xFF ++ (0x7F ∷ [])) ∷ (0x80 ∷ []) ∷ [] ∷ [])
+pub unread-examples : Refused ((replicate 9 0x80 ++ (0x01 ∷ [])) ∷ (replicate 9 0xFF ++ (0x7F ∷ [])) ∷ (0x80 ∷ []) ∷ [] ∷ [])
 unfolding rest decoded encintAt
-refused = (refl, (refl, (refl, (refl, tt))))
+unread-examples = (refl, (refl, (refl, (refl, tt))))

@@ -1,5 +1,4 @@
 -- Bytes that are read as v are leading bytes 80 and the short form of v, and such bytes are read as v.
--- Assumes nothing.
 use mathlib.Core.Path.{_≡_, ap, ap₂, sym, subst, _∙_}
 use mathlib.Core.List.{List, [], _∷_, _++_, append-assoc}
 use Prim.Native.Nat.{ℕ, zero, suc, _+_, _-_, _*_, _/_, _%_, _^_, _≤_, _<_}
@@ -11,7 +10,7 @@ use lib.Dec.{lit<}
 use lib.ListN.{length, getD, take, drop, replicate, length-append, length-replicate}
 use lib.Seq.{getD-drop, take-at}
 use Rattle.fields.proofs.Parts.{part-rest}
-use Rattle.encint.specs.Encint.{rest, encintAt, groups, leading, encoded}
+use Rattle.encint.specs.Encint.{rest, encintAt, sevenBitGroups, leading, encoded}
 use Rattle.encint.specs.Padded.{padded, PaddedAt, ReadExact}
 use Rattle.encint.specs.declared.Number.{Number}
 use Rattle.encint.specs.declared.Number.the-variants.{Value}
@@ -35,8 +34,8 @@ leading-padded (suc j) g w l h =
     rw (suc-add, leading-top (j + g) w l, z, leading-padded j g w l h)
 
 -- a value has no more groups than hold it
-groups-least : (n w k : ℕ) → w < 128 ^ k → groups n w ≤ k
-unfolding groups
+groups-least : (n w k : ℕ) → w < 128 ^ k → sevenBitGroups n w ≤ k
+unfolding sevenBitGroups
 groups-least zero w k h = omega arith
 groups-least (suc n) w zero h = omega (arith, groups-zero (suc n) w (omega arith))
 groups-least (suc n) w (suc k) h =
@@ -115,7 +114,7 @@ length-padded k v = omega (arith, length-append (replicate k 128) (encoded v), l
 
 module _ (v : ℕ) (h : v < 2 ^ 63) where
   abbrev g : ℕ
-  g = groups 8 (v / 128)
+  g = sevenBitGroups 8 (v / 128)
 
   -- its short form behind k bytes 80, as leading groups
   padded-leading : (k : ℕ) (t : List ℕ) → replicate k 128 ++ (encoded v ++ t) ≡ leading (k + g) (v / 128) (v % 128 ∷ t)
@@ -127,15 +126,15 @@ module _ (s : List ℕ) (at : ℕ) where
   pub encint-padded : (k v : ℕ) → PaddedAt s at k v → encintAt s at ≡ Value v (at + (k + length (encoded v)))
   encint-padded k v p =
       let n : ℕ = k + length (encoded v) in
-      let c : length (encoded v) ≡ groups 8 (v / 128) + 1 = length-encoded v (p .small) in
+      let c : length (encoded v) ≡ sevenBitGroups 8 (v / 128) + 1 = length-encoded v (p .small) in
       let few : k + length (encoded v) ≤ 9 = p .few in
-      let m : v / 128 < 128 ^ (k + groups 8 (v / 128)) =
+      let m : v / 128 < 128 ^ (k + sevenBitGroups 8 (v / 128)) =
       lt-of-lt-of-le (groups-are 8 (v / 128) (omega (arith, p .small)) .all) (pow-le-pow-right (lit< tt) (omega arith)) in
-      let l : drop at s ≡ leading (k + groups 8 (v / 128)) (v / 128) (v % 128 ∷ drop (at + n) s) =
+      let l : drop at s ≡ leading (k + sevenBitGroups 8 (v / 128)) (v / 128) (v % 128 ∷ drop (at + n) s) =
       part-rest s at n ∙ ap (λ (x : List ℕ). x ++ drop (at + n) s) (p .bytes) ∙ append-assoc (replicate k 128) (encoded v) (drop (at + n) s) ∙ padded-leading v (p .small) k (drop (at + n) s) in
       at-number s at
       ∙ ap (rest 9 0 at) l
-      ∙ read-all (v / 128) (k + groups 8 (v / 128)) (v % 128) at (drop (at + n) s) (omega arith) m (omega arith)
+      ∙ read-all (v / 128) (k + sevenBitGroups 8 (v / 128)) (v % 128) at (drop (at + n) s) (omega arith) m (omega arith)
       ∙ ap₂ Value (omega arith) (omega arith)
 
   pub padded-encint : ((i : ℕ) → getD s i 0 < 256) → (v next : ℕ) → encintAt s at ≡ Value v next → (k : ℕ) × PaddedAt s at k v × (next ≡ at + (k + length (encoded v)))
@@ -144,10 +143,10 @@ module _ (s : List ℕ) (at : ℕ) where
       let w : v / 128 < 128 ^ r .k = whole v (r .k) (r .before) in
       let x : v / 128 < 128 ^ 8 = lt-of-lt-of-le w (pow-le-pow-right (lit< tt) {j = 8} (omega (arith, r .few))) in
       let h : v < 2 ^ 63 = omega arith in
-      let c : length (encoded v) ≡ groups 8 (v / 128) + 1 = length-encoded v h in
-      let g : groups 8 (v / 128) ≤ r .k = groups-least 8 (v / 128) (r .k) w in
-      let k : ℕ = r .k - groups 8 (v / 128) in
-      let q : r .k ≡ k + groups 8 (v / 128) = omega arith in
+      let c : length (encoded v) ≡ sevenBitGroups 8 (v / 128) + 1 = length-encoded v h in
+      let g : sevenBitGroups 8 (v / 128) ≤ r .k = groups-least 8 (v / 128) (r .k) w in
+      let k : ℕ = r .k - sevenBitGroups 8 (v / 128) in
+      let q : r .k ≡ k + sevenBitGroups 8 (v / 128) = omega arith in
       let l : drop at s ≡ (replicate k 128 ++ encoded v) ++ r .behind =
       r .bytes
       ∙ ap (λ (j : ℕ). leading j (v / 128) (v % 128 ∷ r .behind)) q

@@ -1,5 +1,4 @@
 -- What was written is read back, whatever stands before and behind it.
--- Assumes nothing.
 use mathlib.Core.Path.{_≡_, refl, ap, ap₂, _∙_}
 use mathlib.Core.List.{List, _∷_, _++_}
 use Prim.Native.Nat.{ℕ, zero, suc, _+_, _-_, _*_, _/_, _%_, _^_, _≤_, _<_}
@@ -10,7 +9,7 @@ use lib.ListN.{length, take, drop}
 use lib.Seq.{sets, drop-at, length-take-le}
 use Rattle.fields.specs.Put.{put}
 use Rattle.fields.proofs.Put.{put-inside, sets-parts}
-use Rattle.encint.specs.Encint.{rest, decoded, encintAt, groups, leading, encoded}
+use Rattle.encint.specs.Encint.{rest, decoded, encintAt, sevenBitGroups, leading, encoded}
 use Rattle.encint.specs.declared.Number.the-variants.{Value}
 use Rattle.encint.proofs.Reading.{rest-last, rest-more}
 use Rattle.encint.proofs.Writing.{leading-append, encoded-is, length-encoded, groups-are}
@@ -43,7 +42,7 @@ module _ (v : ℕ) (h : v < 2 ^ 63) where
   pub round-trip : (at : ℕ) (t : List ℕ) → decoded at (encoded v ++ t) ≡ Value v (at + length (encoded v))
   unfolding decoded
   round-trip at t =
-      let k : ℕ = groups 8 (v / 128) in
+      let k : ℕ = sevenBitGroups 8 (v / 128) in
       let r = groups-are 8 (v / 128) (omega arith) in
       let e : encoded v ++ t ≡ leading k (v / 128) (v % 128 ∷ t) = rw (encoded-is v h, leading-append) in
       rw e (read-all (v / 128) k (v % 128) at t (r .few) (r .all) (omega arith) ∙ ap₂ Value (omega arith) (omega (arith, length-encoded v h)))

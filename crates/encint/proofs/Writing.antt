@@ -1,5 +1,4 @@
 -- Writing an ENCINT: how many bytes it takes, and the stores that put them into a list.
--- Assumes nothing.
 use mathlib.Core.Path.{_≡_, refl, ap, sym, _∙_}
 use mathlib.Core.Bool.{cond}
 use mathlib.Core.List.{List, [], _∷_, _++_}
@@ -16,7 +15,7 @@ use Rattle.fields.specs.Part.{inside}
 use Rattle.fields.specs.Put.{put}
 use Rattle.fields.proofs.Tests.{cond-same}
 use Rattle.fields.proofs.Put.{put-none, put-refused, put-done, sets-parts}
-use Rattle.encint.specs.Encint.{groups, leading, encoded}
+use Rattle.encint.specs.Encint.{sevenBitGroups, leading, encoded}
 
 -- ---- the bytes of a value
 
@@ -32,7 +31,7 @@ leading-append zero w l t = refl
 leading-append (suc n) w l t = leading-append n (w / 128) ((128 + w % 128) ∷ l) t
 
 module _ (v : ℕ) where
-  pub encoded-is : v < 2 ^ 63 → encoded v ≡ leading (groups 8 (v / 128)) (v / 128) (v % 128 ∷ [])
+  pub encoded-is : v < 2 ^ 63 → encoded v ≡ leading (sevenBitGroups 8 (v / 128)) (v / 128) (v % 128 ∷ [])
   unfolding encoded
   encoded-is h = rw (lt-ltb v (2 ^ 63) h)
 
@@ -40,7 +39,7 @@ module _ (v : ℕ) where
   unfolding encoded
   encoded-none h = rw (le-ltb v (2 ^ 63) h)
 
-  pub length-encoded : v < 2 ^ 63 → length (encoded v) ≡ groups 8 (v / 128) + 1
+  pub length-encoded : v < 2 ^ 63 → length (encoded v) ≡ sevenBitGroups 8 (v / 128) + 1
   length-encoded h = rw (encoded-is h, length-leading)
 
   -- a value that has bytes is below 2 ^ 63
@@ -49,13 +48,13 @@ module _ (v : ℕ) where
 
 -- ---- how many groups a number has
 
-pub groups-zero : (n w : ℕ) → w ≤ 0 → groups n w ≡ 0
-unfolding groups
+pub groups-zero : (n w : ℕ) → w ≤ 0 → sevenBitGroups n w ≡ 0
+unfolding sevenBitGroups
 groups-zero zero w h = refl
 groups-zero (suc n) w h = rw (eq-eqb w 0 (omega arith))
 
-pub groups-more : (n w : ℕ) → 0 < w → groups (suc n) w ≡ suc (groups n (w / 128))
-unfolding groups
+pub groups-more : (n w : ℕ) → 0 < w → sevenBitGroups (suc n) w ≡ suc (sevenBitGroups n (w / 128))
+unfolding sevenBitGroups
 groups-more n w h = rw (ne-eqb w 0 (omega arith))
 
 -- k groups of seven bits hold all of w, and the highest of them is not 0; n at most
@@ -69,20 +68,20 @@ up : (k w : ℕ) → 0 < w → ((j : ℕ) → k ≡ suc j → 128 ^ j ≤ w / 12
 up zero w p t = p
 up (suc k) w p t = rw pow-suc (omega (arith, t k refl))
 
-pub groups-are : (n w : ℕ) → w < 128 ^ n → Groups n w (groups n w)
+pub groups-are : (n w : ℕ) → w < 128 ^ n → Groups n w (sevenBitGroups n w)
 groups-are zero w h = rw (groups-zero zero w (omega arith)) record { few = omega arith; all = h; top = λ j e. absurd (omega arith) }
 groups-are (suc n) w h =
     elim (decLt 0 w) [
       | yes p ↦
           let m : w < 128 ^ n * 128 = rw pow-suc at h in
           let r = groups-are n (w / 128) (omega arith) in
-          let a : w < 128 ^ groups n (w / 128) * 128 = omega (arith, r .all) in
+          let a : w < 128 ^ sevenBitGroups n (w / 128) * 128 = omega (arith, r .all) in
           rw (groups-more n w p)
-          record { few = omega (arith, r .few); all = rw pow-suc a; top = λ j e. rw (suc-inj e) at (up (groups n (w / 128)) w p (r .top)) }
+          record { few = omega (arith, r .few); all = rw pow-suc a; top = λ j e. rw (suc-inj e) at (up (sevenBitGroups n (w / 128)) w p (r .top)) }
       | no p ↦ rw (groups-zero (suc n) w (omega arith)) record { few = omega arith; all = omega arith; top = λ j e. absurd (omega arith) }
     ]
 
-pub groups-is : (n w k : ℕ) → Groups n w k → groups n w ≡ k
+pub groups-is : (n w k : ℕ) → Groups n w k → sevenBitGroups n w ≡ k
 groups-is n w zero r = groups-zero n w (omega (arith, r .all))
 groups-is zero w (suc k) r = absurd (omega (arith, r .few))
 groups-is (suc n) w (suc k) r =
@@ -97,7 +96,7 @@ groups-is (suc n) w (suc k) r =
 -- one to nine bytes
 pub encoded-some : (v : ℕ) → v < 2 ^ 63 → (0 < length (encoded v)) × (length (encoded v) ≤ 9)
 encoded-some v h =
-    let f : groups 8 (v / 128) ≤ 8 = groups-are 8 (v / 128) (omega arith) .few in
+    let f : sevenBitGroups 8 (v / 128) ≤ 8 = groups-are 8 (v / 128) (omega arith) .few in
     (omega (arith, length-encoded v h), omega (arith, length-encoded v h))
 
 -- also where there is none
@@ -109,7 +108,7 @@ module _ (n w : ℕ) where
   pub room : n ≤ 9 → w < 128 ^ (9 - n) → 0 < w → n < 9
   room h k p = elim (decLt n 9) [ yes l ↦ l | no l ↦ absurd (let e : n ≡ 9 = omega arith in let f : w < 1 = rw e at k in omega arith) ]
 
-  pub groups-step : n < 9 → 0 < w → groups (9 - n) w ≡ suc (groups (9 - (n + 1)) (w / 128))
+  pub groups-step : n < 9 → 0 < w → sevenBitGroups (9 - n) w ≡ suc (sevenBitGroups (9 - (n + 1)) (w / 128))
   groups-step h p = let e : 9 - n ≡ suc (9 - (n + 1)) = omega arith in rw (e, groups-more (9 - (n + 1)) w p)
 
   pub less-step : n < 9 → w < 128 ^ (9 - n) → w / 128 < 128 ^ (9 - (n + 1))
@@ -145,7 +144,7 @@ pub stored : (s : List ℕ) (at v n : ℕ) → n ≡ length (encoded v) → 0 < 
     → (let t = set s (at + (n - 1)) (v % 128) in take at t ++ leading (n - 1) (v / 128) (drop (at + (n - 1)) t)) ≡ sets s at (encoded v)
 stored s at v n e p h =
     let r : v < 2 ^ 63 = in-range v (omega arith) in
-    let g : n - 1 ≡ groups 8 (v / 128) = omega (arith, length-encoded v r) in
+    let g : n - 1 ≡ sevenBitGroups 8 (v / 128) = omega (arith, length-encoded v r) in
     let f : suc (at + (n - 1)) ≡ at + n = omega arith in
     rw (
       drop-set s (at + (n - 1)) (v % 128) (omega arith),

@@ -1,6 +1,5 @@
 -- ENCINT: seven bits a byte, most significant first; the high bit says that a byte follows. One to nine bytes, so a value is below 2 ^ 63.
 -- A leading 80 hex is seven zero bits; what is written has none (FORMAT, Numbers).
--- Assumes nothing.
 use Prim.Native.Nat.{ℕ, zero, suc, _+_, _*_, _/_, _%_, _^_}
 use mathlib.Core.Bool.{cond}
 use mathlib.Core.List.{List, [], _∷_}
@@ -31,9 +30,9 @@ encintAt s at = decoded at (drop at s)
 -- ---- writing
 
 -- how many groups of seven bits w has, none for 0; n at most
-unfoldable pub groups : ℕ → ℕ → ℕ
-groups zero w = 0
-groups (suc n) w = cond (eqb w 0) 0 (suc (groups n (w / 128)))
+unfoldable pub sevenBitGroups : ℕ → ℕ → ℕ
+sevenBitGroups zero w = 0
+sevenBitGroups (suc n) w = cond (eqb w 0) 0 (suc (sevenBitGroups n (w / 128)))
 
 -- the lowest n groups of w, highest first, each with the high bit, in front of l
 unfoldable pub leading : ℕ → ℕ → List ℕ → List ℕ
@@ -42,4 +41,4 @@ leading (suc n) w l = leading n (w / 128) ((128 + w % 128) ∷ l)
 
 -- the bytes of v, its short form; none for 2 ^ 63 and above
 unfoldable pub encoded : ℕ → List ℕ
-encoded v = cond (ltb v (2 ^ 63)) (leading (groups 8 (v / 128)) (v / 128) (v % 128 ∷ [])) []
+encoded v = cond (ltb v (2 ^ 63)) (leading (sevenBitGroups 8 (v / 128)) (v / 128) (v % 128 ∷ [])) []

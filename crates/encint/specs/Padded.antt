@@ -1,5 +1,4 @@
 -- Which bytes are read as a value: its short form, with leading bytes 80 or none (FORMAT N3, N4).
--- Assumes nothing.
 use Prim.Native.Nat.{ℕ, _+_, _^_, _≤_, _<_}
 use mathlib.Core.Path.{_≡_}
 use mathlib.Core.List.{List, _++_}

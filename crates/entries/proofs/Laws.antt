@@ -1,6 +1,5 @@
 -- What an entry that was read is known to be: an entry of each kind taken apart, where each of its numbers stands and what rules they keep
 -- (`listing-apart`, `index-apart`); that it and its name lie inside the chunk (`item-inside`).
--- Assumes nothing.
 use mathlib.Core.Path.{_≡_, refl, sym, ap₂, subst, _∙_}
 use mathlib.Core.List.{List}
 use mathlib.Core.Bool.{Bool, true, false, cond, _&&_, _||_}

@@ -1,6 +1,5 @@
 -- A listing entry that was read stands there, each of its numbers in its short form behind bytes 80 or none; it is unpadded exactly where its own
 -- bytes are those that are written for it.
--- Assumes nothing.
 use mathlib.Core.Path.{_≡_, sym, ap, ap₂, _∙_}
 use mathlib.Core.Logic.{_↔_}
 use mathlib.Core.Bool.{true}

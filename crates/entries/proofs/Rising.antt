@@ -1,5 +1,4 @@
 -- Things whose names rise: the first and the others; any of them; some of them, without those in front or behind.
--- Assumes nothing.
 use mathlib.Core.Path.{_≡_, refl}
 use mathlib.Core.List.{List, [], _∷_, _++_}
 use mathlib.Core.Bool.{true}

@@ -1,5 +1,4 @@
 -- One entry of a chunk (FORMAT, Entries). A chunk is its list of bytes; nothing is read past its end.
--- Assumes nothing.
 use Prim.Native.Nat.{ℕ, _+_}
 use mathlib.Core.List.{List}
 use mathlib.Core.Bool.{cond, _&&_, _||_}

@@ -1,5 +1,4 @@
 -- The bytes of a listing entry as it may stand: each of its numbers in its short form, behind bytes 80 or none (FORMAT E1, N4).
--- Assumes nothing.
 use Prim.Native.Nat.{ℕ}
 use mathlib.Core.Path.{_≡_}
 use mathlib.Core.List.{List, _++_}

@@ -1,5 +1,4 @@
 -- Names that rise (FORMAT S1, S2).
--- Assumes nothing.
 use Prim.Native.Nat.{ℕ}
 use mathlib.Core.Bool.{Bool, true, _&&_}
 use mathlib.Core.List.{List, [], _∷_}

@@ -1,12 +1,11 @@
 -- On a book that opening accepts, the descent that checks no chunk replies what lookup answers: `fetched-same`.
--- Assumes nothing.
 use mathlib.Core.Path.{_≡_, sym, ap, _∙_}
 use mathlib.Core.List.{List}
 use Prim.Native.Nat.{ℕ, _≤_}
 use Rattle.header.specs.declared.Record.{Record}
 use Rattle.tree.specs.Tree.{top}
 use Rattle.tree.specs.Descent.{outcomeFrom, outcome}
-use Rattle.tree.proofs.Demanded.{grown}
+use Rattle.tree.proofs.LookupExact.{grown}
 use Rattle.tree.proofs.Fetch.{fetch-shaped}
 use Rattle.book.specs.Book.{limitsOf, chunkBytes, directoryOf, shapeOf}
 use Rattle.opening.specs.Opened.{opened}

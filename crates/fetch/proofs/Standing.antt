@@ -1,6 +1,5 @@
 -- On any bytes: what the descent without checks finds stands where it is reported to (`fetched-stands`), and it refuses a name or a record that cannot be
 -- asked, and nothing else (`fetch-refusal`).
--- Assumes nothing.
 use mathlib.Core.Path.{_≡_, refl, sym}
 use mathlib.Core.Logic.{_⊎_, inl, inr}
 use mathlib.Core.Bool.{Bool, true, false, cond}
@@ -17,7 +16,7 @@ use Rattle.header.specs.declared.Record.{Record}
 use Rattle.tree.specs.Tree.{top}
 use Rattle.tree.specs.Descent.{Outcome, found, absent, refused, answer, onward}
 use Rattle.tree.specs.Fetch.{fetchFrom}
-use Rattle.book.specs.Book.{limitsOf, chunkBytes, shapeOf, bookFits, reportOf}
+use Rattle.book.specs.Book.{limitsOf, chunkBytes, shapeOf, recordFits, reportOf}
 use Rattle.book.specs.Search.{Stands}
 use Rattle.book.proofs.Searching.{found-report, found-stands}
 use Rattle.lookup.specs.Reply.{replyTo, repliedTo}
@@ -49,7 +48,7 @@ module _ (s : List ℕ) (book : Record) (name : List ℕ) where
 
   pub fetched-stands : FoundStands s name (fetched s book name)
   unfolding fetched repliedTo
-  fetched-stands x = go (askable name) (bookFits s book) (fetchAt s book name (book .depth) (top (shapeOf book))) (fetch-stands (book .depth) (top (shapeOf book)))
+  fetched-stands x = go (askable name) (recordFits s book) (fetchAt s book name (book .depth) (top (shapeOf book))) (fetch-stands (book .depth) (top (shapeOf book)))
     where
       go : (a b : Bool) (o : Outcome) → Worth o → cond a (cond b (replyTo book o) (Refused (refusalOf 17))) (Refused (refusalOf 15)) ≡ Found x → Stands s name x
       go true true (found c e) w q = let z : reportOf book c e ≡ x = cc in rw (← z) w
@@ -59,14 +58,14 @@ module _ (s : List ℕ) (book : Record) (name : List ℕ) where
       go false b o w q = absurd (let z : _≡_ {A = ℕ} 0 1 = cc in omega arith)
 
   pub fetch-refusal : (x : Refusal) → fetched s book name ≡ Refused x
-      → ((x ≡ refusalOf 15) × (askable name ≡ false)) ⊎ ((x ≡ refusalOf 17) × (bookFits s book ≡ false))
+      → ((x ≡ refusalOf 15) × (askable name ≡ false)) ⊎ ((x ≡ refusalOf 17) × (recordFits s book ≡ false))
   unfolding fetched repliedTo
   fetch-refusal x =
-      go (askable name) refl (bookFits s book) refl (fetchAt s book name (book .depth) (top (shapeOf book))) (fetch-stands (book .depth) (top (shapeOf book)))
+      go (askable name) refl (recordFits s book) refl (fetchAt s book name (book .depth) (top (shapeOf book))) (fetch-stands (book .depth) (top (shapeOf book)))
     where
-      go : (a : Bool) → askable name ≡ a → (b : Bool) → bookFits s book ≡ b → (o : Outcome) → Worth o
+      go : (a : Bool) → askable name ≡ a → (b : Bool) → recordFits s book ≡ b → (o : Outcome) → Worth o
           → cond a (cond b (replyTo book o) (Refused (refusalOf 17))) (Refused (refusalOf 15)) ≡ Refused x
-          → ((x ≡ refusalOf 15) × (askable name ≡ false)) ⊎ ((x ≡ refusalOf 17) × (bookFits s book ≡ false))
+          → ((x ≡ refusalOf 15) × (askable name ≡ false)) ⊎ ((x ≡ refusalOf 17) × (recordFits s book ≡ false))
       go true p true r (found c e) w q = absurd (let z : _≡_ {A = ℕ} 0 1 = cc in omega arith)
       go true p true r absent w q = absurd (let z : _≡_ {A = ℕ} 0 1 = cc in omega arith)
       go true p true r refused w q = absurd w

@@ -1,6 +1,5 @@
 -- Lookup in an opened book: the descent for a name that checks no chunk (FORMAT K22 to K24). On any bytes it answers what the searches in one chunk make
 -- of them.
--- Assumes nothing.
 use mathlib.Core.Path.{_≡_}
 use mathlib.Core.List.{List}
 use Prim.Native.Nat.{ℕ}

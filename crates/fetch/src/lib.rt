@@ -47,7 +47,7 @@ pub fn fetch(file: &[u8], book: Record, name: &[u8]) -> Reply
     if !names::is_askable(name) {
         return Reply::Refused(refusals::refuse(15));
     }
-    if !book::fits(file, book) {
+    if !book::record_fits(file, book) {
         return Reply::Refused(refusals::refuse(17));
     }
     fetch_from(file, book, name, book.depth, book::top_chunk(book))

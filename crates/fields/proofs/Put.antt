@@ -1,5 +1,4 @@
 -- Writing into a list: laws of `sets`, the bytes written one by one, and of `put`.
--- Assumes nothing.
 use mathlib.Core.Path.{_≡_, refl, ap, sym, _∙_}
 use mathlib.Core.Bool.{true, false}
 use mathlib.Core.List.{List, [], _∷_, _++_, append-assoc, append-nil}

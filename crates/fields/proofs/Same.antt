@@ -1,5 +1,4 @@
 -- Laws of `same` and `standsAt`: the tests mean equality.
--- Assumes nothing.
 use mathlib.Core.Path.{_≡_, refl, ap, ap₂, _∙_}
 use mathlib.Core.Bool.{true, false}
 use mathlib.Core.List.{List, [], _∷_}

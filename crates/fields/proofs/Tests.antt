@@ -1,5 +1,4 @@
 -- Laws of tests: when two are one, and what a test that holds tells of its parts.
--- Assumes nothing.
 use mathlib.Core.Path.{_≡_, refl, sym, _∙_}
 use mathlib.Core.Bool.{Bool, true, false, not, cond, _&&_, false≢true}
 use Prim.Native.Nat.{ℕ, _≤_}

@@ -1,5 +1,4 @@
 -- Fixed numbers of a file: little-endian (FORMAT, Numbers).
--- Assumes nothing.
 use Prim.Native.Nat.{ℕ, zero, suc, _+_, _*_, _/_, _%_}
 use mathlib.Core.List.{List, [], _∷_}
 use lib.ListN.{getD}

@@ -1,5 +1,4 @@
 -- Bytes written into a list at a place.
--- Assumes nothing.
 use Prim.Native.Nat.{ℕ}
 use mathlib.Core.Bool.{cond}
 use mathlib.Core.List.{List}

@@ -1,5 +1,4 @@
 -- Equality of byte lists as a test, and of a part of a list with given bytes.
--- Assumes nothing.
 use Prim.Native.Nat.{ℕ}
 use mathlib.Core.Bool.{Bool, true, false, _&&_}
 use mathlib.Core.List.{List, [], _∷_}

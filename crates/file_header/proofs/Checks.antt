@@ -1,6 +1,5 @@
 -- The checks of a file header in their order: all hold where it is good, and what it says is read from its bytes (`file-rules`); where all
 -- hold, it is good (`file-good`); a refusal has one of their numbers (`file-refused`). So too of section 0.
--- Assumes nothing.
 use mathlib.Core.Path.{_≡_, refl}
 use mathlib.Core.List.{List}
 use mathlib.Core.Bool.{Bool, true, false, cond}

@@ -1,5 +1,4 @@
 -- What refusal 4 tells of a file header where it holds.
--- Assumes nothing.
 use mathlib.Core.Path.{_≡_}
 use mathlib.Core.List.{List}
 use mathlib.Core.Bool.{Bool, true, _&&_}

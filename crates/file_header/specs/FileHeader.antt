@@ -1,7 +1,6 @@
 -- The file header with section 0: one test for each of the refusals 1 to 5, in their order, and what a header that passes says.
 -- A test has its own part of the file: h is the file's first 96 bytes, z the 24 bytes of section 0. `size` is the file's length. Sums are
 -- exact (FORMAT N7).
--- Assumes nothing.
 use Prim.Native.Nat.{ℕ, _+_}
 use mathlib.Core.List.{List, [], _∷_}
 use mathlib.Core.Bool.{Bool, cond, _&&_, _||_}

@@ -1,5 +1,4 @@
--- What good headers tell of their record: `accepted`.
--- Assumes nothing.
+-- What good headers tell of their record: `header-accepted`.
 use mathlib.Core.Path.{_≡_, sym, ap, ap₂, subst, _∙_}
 use mathlib.Core.List.{List}
 use mathlib.Core.Bool.{true}
@@ -54,8 +53,8 @@ rules-accepted s h d rules right =
       content = p .content;
     }
 
-pub accepted : (s : List ℕ) (r : Record) → headerOf s ≡ Good r → Accepted s r
-accepted s r e =
+pub header-accepted : (s : List ℕ) (r : Record) → headerOf s ≡ Good r → Accepted s r
+header-accepted s r e =
     let t = header-both s r e in
     let h = headerIn s in
     let d = directoryIn s (t .f) in

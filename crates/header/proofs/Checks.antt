@@ -1,6 +1,5 @@
 -- The headers of a file put together: where each is good, the whole is (`header-good`), and the other way round (`header-both`); a refusal has
 -- a number of the table (`header-refused`).
--- Assumes nothing.
 use mathlib.Core.Path.{_≡_, refl}
 use mathlib.Core.List.{List}
 use Prim.Native.Nat.{ℕ, _≤_}

@@ -1,5 +1,4 @@
 -- The headers of a whole file: each on its own part, in the order of their refusals, and the record that opening hands out.
--- Assumes nothing.
 use Prim.Native.Nat.{ℕ}
 use mathlib.Core.List.{List}
 use lib.ListN.{length}

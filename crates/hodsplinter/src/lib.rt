@@ -145,7 +145,7 @@ pub extern "C" fn hods_own(
 
 // The entries of one listing chunk, five numbers each: 0 with their count and the next chunk, 255 where there are too few places, or the refusal.
 #[no_mangle]
-pub extern "C" fn hods_chunk(
+pub extern "C" fn hods_chunk_page(
     file: &[u8],
     record: &Numbers,
     chunk: u64,
@@ -156,7 +156,7 @@ pub extern "C" fn hods_chunk(
     ensures entries { λ _. ⌜ now (entries .exit) ≡ pageIn (now (file .entry)) (recordIn (now («record» .entry))) chunk (now (entries .entry)) ⌝ }
     ensures numbers { λ _. ⌜ now (next .exit) ≡ pageNumbers (pageOf (now (file .entry)) (recordIn (now («record» .entry))) chunk (length (now (entries .entry)))) (now (next .entry)) ⌝ }
 {
-    let page = listing::page_of(file, numbers::record_in(record), chunk, entries);
+    let page = listing::chunk_page(file, numbers::record_in(record), chunk, entries);
     numbers::tell_page(page, next)
 }
 

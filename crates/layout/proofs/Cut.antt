@@ -1,6 +1,5 @@
 -- Entries that a new book can have, and a cut of them into listing chunks that fit: `Cut`. The entries of an input that the writer takes, cut as
 -- the writer cuts them, are such (`takes-told`).
--- Assumes nothing.
 use mathlib.Core.Path.{_≡_, sym, ap, subst, _∙_}
 use mathlib.Core.Bool.{true, _&&_}
 use mathlib.Core.List.{List, [], _∷_, flatten}

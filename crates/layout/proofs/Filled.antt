@@ -1,5 +1,4 @@
 -- Chunks whose entries fit are as long as a chunk, and have room for what stands in them.
--- Assumes nothing.
 use mathlib.Core.Path.{_≡_, ap, _∙_}
 use mathlib.Core.List.{List, [], _∷_, flatten}
 use Prim.Native.Nat.{ℕ, _+_, _*_, _≤_, _<_}
@@ -18,7 +17,7 @@ use Rattle.pack.proofs.Fitting.{index-fit}
 use Rattle.compose.specs.NewChunk.{entriesEnd}
 use Rattle.compose.proofs.Composing.{run-length}
 use Rattle.compose.proofs.Whole.{length-chunk}
-use Rattle.layout.specs.Layout.{Layout, layoutOver, prevOf, nextOf, chunksOf, chunkList}
+use Rattle.layout.specs.Layout.{Layout, layoutOver, newPrevious, newNext, chunksOf, chunkList}
 use Rattle.layout.proofs.Cut.{Cut, cut-ordered, cut-some}
 use Rattle.layout.proofs.Sizes.{length-chunks, length-flat}
 
@@ -29,7 +28,7 @@ module _ (k : Kind) (n : ℕ) where
   pub chunks-whole : (m c : ℕ) (gs : List (List Stored)) → All (Fit (entrySize k) (fits k n)) gs → All (λ (x : List ℕ). length x ≡ 4096) (chunksOf k n m c gs)
   unfolding chunksOf
   chunks-whole m c [] none = none
-  chunks-whole m c (g ∷ gs) (more f fs) = more (length-chunk k n (prevOf c) (nextOf m c) g (fit-room g f)) (chunks-whole m (c + 1) gs fs)
+  chunks-whole m c (g ∷ gs) (more f fs) = more (length-chunk k n (newPrevious c) (newNext m c) g (fit-room g f)) (chunks-whole m (c + 1) gs fs)
 
   pub length-all : (m c : ℕ) (gs : List (List Stored)) → All (Fit (entrySize k) (fits k n)) gs → length (flatten (chunksOf k n m c gs)) ≡ 4096 * length gs
   length-all m c gs fs =

@@ -1,5 +1,4 @@
 -- One listing chunk is the whole directory; more have an index over them.
--- Assumes nothing.
 use mathlib.Core.Path.{_≡_, refl, ap}
 use mathlib.Core.Bool.{Bool, true, false}
 use mathlib.Core.List.{List, flatten}

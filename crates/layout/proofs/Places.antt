@@ -1,5 +1,4 @@
 -- Where the parts of a new book stand: its headers, its chunks, and the content behind them.
--- Assumes nothing.
 use mathlib.Core.Path.{_≡_, refl, ap, _∙_}
 use mathlib.Core.List.{List, [], _++_, flatten, append-assoc}
 use Prim.Native.Nat.{ℕ, _+_, _-_, _*_, _<_}
@@ -10,7 +9,7 @@ use Rattle.fields.specs.Part.{part}
 use Rattle.chunk.specs.Chunk.{spacingOf}
 use Rattle.fields.proofs.Lists.{All}
 use Rattle.layout.specs.Headers.{headLength, fileHeader, sectionZero, directoryHeader}
-use Rattle.layout.specs.Layout.{Layout, chunkCount, depthOf, rootOf, chunkList, headBytes}
+use Rattle.layout.specs.Layout.{Layout, chunkCount, layoutDepth, newRoot, chunkList, headBytes}
 use Rattle.layout.proofs.Sizes.{length-file, length-section, length-directory, length-list, length-flat}
 use Rattle.layout.proofs.Standing.{chunk-part}
 
@@ -38,7 +37,7 @@ module _ (density time language : ℕ) (l : Layout) (content : List ℕ) where
   z = sectionZero (headLength n + length content)
 
   abbrev d : List ℕ
-  d = directoryHeader language density (depthOf l) (rootOf (depthOf l) n) (length (l .leaves) - 1) n
+  d = directoryHeader language density (layoutDepth l) (newRoot (layoutDepth l) n) (length (l .leaves) - 1) n
 
   abbrev cs : List (List ℕ)
   cs = chunkList (spacingOf density) l

@@ -1,5 +1,4 @@
 -- Names that rise, cut into groups: they rise in each group, and so do the groups' first names.
--- Assumes nothing.
 use mathlib.Core.Path.{_≡_, refl}
 use mathlib.Core.Bool.{true}
 use mathlib.Core.List.{List, [], _∷_, _++_, flatten}
@@ -12,7 +11,7 @@ use Rattle.entries.specs.Rising.{rising}
 use Rattle.entries.specs.Stored.{Stored, storedName}
 use Rattle.entries.proofs.Rising.{rising-more, more-rising, rising-left, rising-right}
 use Rattle.fields.proofs.Lists.{All, none, more}
-use Rattle.pack.specs.Levels.{firstName, childrenOf}
+use Rattle.pack.specs.Levels.{groupName, childrenOf}
 
 -- an entry has a name; a group has an entry
 abbrev pub Named : Stored → Type 0
@@ -41,7 +40,7 @@ groups-rise last (g ∷ gs) (more h hs) r =
 -- ---- the first names
 
 pub children-rise : (last : List ℕ) (c : ℕ) (gs : List (List Stored)) → All Some gs → rising storedName last (flatten gs) ≡ true → rising storedName last (childrenOf c gs) ≡ true
-unfolding flatten childrenOf firstName rising
+unfolding flatten childrenOf groupName rising
 children-rise last c [] none r = refl
 children-rise last c ([] ∷ gs) (more h hs) r = absurd (omega arith)
 children-rise last c ((e ∷ g) ∷ gs) (more h hs) r =

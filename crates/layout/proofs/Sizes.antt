@@ -1,5 +1,4 @@
 -- The lengths of the parts of a new head: its three headers, and its chunks.
--- Assumes nothing.
 use mathlib.Core.Path.{_≡_, refl, ap}
 use mathlib.Core.List.{List, [], _∷_, flatten}
 use Prim.Native.Nat.{ℕ, suc, _+_, _*_}

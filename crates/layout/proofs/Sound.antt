@@ -1,5 +1,4 @@
 -- The index chunks of a new directory: their names rise, and their entries are such as an index chunk takes.
--- Assumes nothing.
 use mathlib.Core.Path.{_≡_, refl, sym, subst}
 use mathlib.Core.Bool.{Bool, true, false, cond}
 use mathlib.Core.List.{List, [], _∷_, flatten}
@@ -13,7 +12,7 @@ use Rattle.entries.specs.Rising.{rising}
 use Rattle.entries.specs.Stored.{Stored, storedName}
 use Rattle.fields.proofs.Lists.{All, none, more, all-weaken, all-append, all-parts}
 use Rattle.pack.specs.Groups.{fits}
-use Rattle.pack.specs.Levels.{entrySize, level, firstName, childrenOf, levelsAbove}
+use Rattle.pack.specs.Levels.{entrySize, level, groupName, childrenOf, levelsAbove}
 use Rattle.pack.proofs.Groups.{Fit, groups-flat}
 use Rattle.pack.proofs.Fitting.{Short, level-fit}
 use Rattle.layout.proofs.Rising.{Named, Some, groups-rise, children-rise}
@@ -41,7 +40,7 @@ pub record Ordered (gs : List (List Stored)) : Type 0 where
 
 -- the entries for chunks that are numbered from c on
 children : (bound c : ℕ) (gs : List (List Stored)) → All Some gs → All (All Named) gs → All (All Short) gs → c + length gs ≤ bound → All (Child bound) (childrenOf c gs)
-unfolding childrenOf firstName
+unfolding childrenOf groupName
 children bound c [] none none none h = none
 children bound c ([] ∷ gs) (more s ss) ns hs h = absurd (omega arith)
 children bound c ((e ∷ g) ∷ gs) (more s ss) (more (more n _) ns) (more (more t _) ts) h =

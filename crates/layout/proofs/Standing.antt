@@ -1,5 +1,4 @@
 -- Chunks that stand one behind another: chunk c starts 4,096 bytes times c behind the first, and is the one that the layout has there.
--- Assumes nothing.
 use mathlib.Core.Path.{_≡_, sym, ap, _∙_}
 use mathlib.Core.List.{List, [], _∷_, _++_, flatten, append-assoc}
 use Prim.Native.Nat.{ℕ, zero, suc, _+_, _*_, _<_}
@@ -13,7 +12,7 @@ use Rattle.entries.specs.declared.Kind.the-variants.{Listing, Index}
 use Rattle.entries.specs.Stored.{Stored}
 use Rattle.fields.proofs.Lists.{All, none, more}
 use Rattle.compose.specs.NewChunk.{newChunk}
-use Rattle.layout.specs.Layout.{Layout, prevOf, nextOf, chunksOf, chunkList}
+use Rattle.layout.specs.Layout.{Layout, newPrevious, newNext, chunksOf, chunkList}
 use Rattle.layout.proofs.Sizes.{length-chunks}
 
 -- ---- bytes
@@ -30,7 +29,7 @@ chunk-part (x ∷ cs) q (suc c) (more e es) h =
 -- ---- chunks of a layout
 
 chunk-of : (k : Kind) (n m c : ℕ) (gs : List (List Stored)) (i : ℕ) → i < length gs
-    → getD (chunksOf k n m c gs) i [] ≡ newChunk k n (prevOf (c + i)) (nextOf m (c + i)) (getD gs i [])
+    → getD (chunksOf k n m c gs) i [] ≡ newChunk k n (newPrevious (c + i)) (newNext m (c + i)) (getD gs i [])
 unfolding chunksOf
 chunk-of k n m c [] i h = absurd (omega arith)
 chunk-of k n m c (g ∷ gs) zero h = let e : c + 0 ≡ c = omega arith in rw e
@@ -46,12 +45,12 @@ module _ (n : ℕ) (l : Layout) where
   abbrev index : List (List ℕ)
   index = chunksOf Index n m m (flatten (l .levels))
 
-  pub list-leaf : (c : ℕ) → c < m → getD (chunkList n l) c [] ≡ newChunk Listing n (prevOf c) (nextOf m c) (getD (l .leaves) c [])
+  pub list-leaf : (c : ℕ) → c < m → getD (chunkList n l) c [] ≡ newChunk Listing n (newPrevious c) (newNext m c) (getD (l .leaves) c [])
   unfolding chunkList
   list-leaf c h = List·getD-append listing index [] c (rw length-chunks h) ∙ simp zero-add at (chunk-of Listing n m 0 (l .leaves) c h)
 
   pub list-node : (i : ℕ) → i < length (flatten (l .levels))
-      → getD (chunkList n l) (m + i) [] ≡ newChunk Index n (prevOf (m + i)) (nextOf m (m + i)) (getD (flatten (l .levels)) i [])
+      → getD (chunkList n l) (m + i) [] ≡ newChunk Index n (newPrevious (m + i)) (newNext m (m + i)) (getD (flatten (l .levels)) i [])
   unfolding chunkList
   list-node i h =
       ap (λ (k : ℕ). getD (listing ++ index) (k + i) []) (sym (length-chunks Listing n m 0 (l .leaves)))

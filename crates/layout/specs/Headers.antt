@@ -1,5 +1,4 @@
 -- The headers of a new book, field by field (FORMAT, File header, Directory header; W3 to W8).
--- Assumes nothing.
 use Prim.Native.Nat.{ℕ, _+_, _*_}
 use mathlib.Core.List.{List, [], _∷_, flatten}
 use Rattle.fields.specs.Le.{bytes}

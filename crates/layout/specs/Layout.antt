@@ -1,5 +1,4 @@
 -- The layout of a new book: what the writer takes, which entries each chunk holds, and the bytes of the head (FORMAT, Writer).
--- Assumes nothing.
 use Prim.Native.Nat.{ℕ, _+_, _-_, _^_}
 use mathlib.Core.Bool.{Bool, cond, _&&_}
 use mathlib.Core.List.{List, [], _∷_, _++_, flatten}
@@ -38,26 +37,26 @@ layoutOf n es = layoutOver n (level n Listing es)
 abbrev pub chunkCount : Layout → ℕ
 chunkCount l = length (l .leaves) + length (flatten (l .levels))
 
-abbrev pub depthOf : Layout → ℕ
-depthOf l = 1 + length (l .levels)
+abbrev pub layoutDepth : Layout → ℕ
+layoutDepth l = 1 + length (l .levels)
 
 -- refusal 19 where it does not hold
 unfoldable pub smallEnough : Layout → Bool
-smallEnough l = leb (chunkCount l) 4096 && leb (depthOf l) 5
+smallEnough l = leb (chunkCount l) 4096 && leb (layoutDepth l) 5
 
 -- ---- the chunks
 
 -- the previous and the next of m listing chunks (W9)
-unfoldable pub prevOf : ℕ → ℕ
-prevOf c = cond (eqb c 0) noChunk (c - 1)
+unfoldable pub newPrevious : ℕ → ℕ
+newPrevious c = cond (eqb c 0) noChunk (c - 1)
 
-unfoldable pub nextOf : ℕ → ℕ → ℕ
-nextOf m c = cond (ltb (c + 1) m) (c + 1) noChunk
+unfoldable pub newNext : ℕ → ℕ → ℕ
+newNext m c = cond (ltb (c + 1) m) (c + 1) noChunk
 
 -- chunks of a kind, numbered from c on, of which the first m are the listing chunks
 unfoldable pub chunksOf : Kind → ℕ → ℕ → ℕ → List (List Stored) → List (List ℕ)
 chunksOf k n m c [] = []
-chunksOf k n m c (g ∷ gs) = newChunk k n (prevOf c) (nextOf m c) g ∷ chunksOf k n m (c + 1) gs
+chunksOf k n m c (g ∷ gs) = newChunk k n (newPrevious c) (newNext m c) g ∷ chunksOf k n m (c + 1) gs
 
 -- all chunks, in the order of their numbers
 unfoldable pub chunkList : ℕ → Layout → List (List ℕ)
@@ -67,15 +66,15 @@ chunkList n l =
 -- ---- the head
 
 -- the root is the last chunk; at depth 1 there is none (W11, W12)
-unfoldable pub rootOf : ℕ → ℕ → ℕ
-rootOf depth count = cond (eqb depth 1) noChunk (count - 1)
+unfoldable pub newRoot : ℕ → ℕ → ℕ
+newRoot depth count = cond (eqb depth 1) noChunk (count - 1)
 
 -- headers and chunks; content is the content's length
 unfoldable pub headBytes : (density time language content : ℕ) → Layout → List ℕ
 headBytes density time language content l =
     fileHeader time language (chunkCount l)
     ++ (sectionZero (headLength (chunkCount l) + content)
-    ++ (directoryHeader language density (depthOf l) (rootOf (depthOf l) (chunkCount l)) (length (l .leaves) - 1) (chunkCount l)
+    ++ (directoryHeader language density (layoutDepth l) (newRoot (layoutDepth l) (chunkCount l)) (length (l .leaves) - 1) (chunkCount l)
     ++ flatten (chunkList (spacingOf density) l)))
 
 -- the layout that the inputs fix

@@ -1,5 +1,4 @@
 -- Listing is exact: the steps through a book that opens report every entry of every chunk of its chain, in order, each once, and then the end.
--- Assumes nothing.
 use mathlib.Core.Path.{_≡_, refl, ap}
 use mathlib.Core.Bool.{true}
 use mathlib.Core.List.{List, flatMap, append-nil}
@@ -11,7 +10,7 @@ use Rattle.header.specs.declared.Record.{Record}
 use Rattle.tree.specs.Shape.{nextOf}
 use Rattle.tree.specs.Chain.{chainFrom, chain, linked}
 use Rattle.tree.proofs.Linked.{onLink, linked-chunk, chain-linked, good-filled, listed}
-use Rattle.book.specs.Book.{directoryOf, shapeOf, bookFits}
+use Rattle.book.specs.Book.{directoryOf, shapeOf, recordFits}
 use Rattle.opening.specs.Opened.{opened}
 use Rattle.opening.specs.declared.Opened.the-variants.{Book}
 use Rattle.listing.specs.Listing.{cursorAt, startOf, stepped, reportsIn}
@@ -22,7 +21,7 @@ use Rattle.opening.proofs.Accepted.{opened-book}
 use Rattle.listing.proofs.Stepping.{step-end}
 use Rattle.listing.proofs.Run.{Run, run-append, run-steps, end-steps, run-take, run-chunk}
 
-module _ (s : List ℕ) (book : Record) (fits : bookFits s book ≡ true) where
+module _ (s : List ℕ) (book : Record) (fits : recordFits s book ≡ true) where
   -- along a chain that is linked, to its end
   run-chain : (n p c : ℕ) → linked (directoryOf s book) (shapeOf book) n p c ≡ true
       → Run s book (cursorAt c 0) (flatMap (reportsIn s book) (chainFrom (directoryOf s book) n c)) (cursorAt noChunk 0)

@@ -1,5 +1,4 @@
 -- The own bytes of the entry at a cursor, by the cases of the answer.
--- Assumes nothing.
 use mathlib.Core.Path.{_≡_, refl, sym, ap, subst, _∙_}
 use mathlib.Core.Bool.{Bool, true, false}
 use mathlib.Core.List.{List}
@@ -18,7 +17,7 @@ use Rattle.seek.specs.declared.Hit.the-variants.{At as HitAt, Nothing as HitNot
 use Rattle.header.specs.declared.Record.{Record}
 use Rattle.tree.specs.Shape.{isListing, listingChunk}
 use Rattle.tree.proofs.Chunks.{listing-chunk}
-use Rattle.book.specs.Book.{limitsOf, chunkBytes, directoryOf, shapeOf, bookFits, reportOf, ownOf, ownAt}
+use Rattle.book.specs.Book.{limitsOf, chunkBytes, directoryOf, shapeOf, recordFits, reportOf, ownOf, ownAt}
 use Rattle.book.proofs.Read.{read-owned, own-padded, nth-hit, nth-nothing}
 use Rattle.listing.specs.Listing.{movedOn, stepOf, entryStep, stepped, canList, ownedOf, ownedAt, OwnBeside}
 use Rattle.listing.specs.declared.Cursor.{Cursor}
@@ -30,7 +29,7 @@ use Rattle.seek.proofs.Steps.{nth-read}
 use Rattle.listing.proofs.Stepping.{entry-absent, step-unfit, step-end, step-other, step-entry, some-chunk}
 
 module _ (s : List ℕ) (book : Record) (at : Cursor) where
-  pub own-unfit : bookFits s book ≡ false → ownedAt s book at ≡ Nothing
+  pub own-unfit : recordFits s book ≡ false → ownedAt s book at ≡ Nothing
   unfolding ownedAt canList
   own-unfit f = rw f
 
@@ -38,7 +37,7 @@ module _ (s : List ℕ) (book : Record) (at : Cursor) where
   unfolding ownedAt canList
   own-other l = rw (l, and-no)
 
-  module _ (f : bookFits s book ≡ true) (l : listingChunk (directoryOf s book) (shapeOf book) (at .chunk) ≡ true) (is : isListing (directoryOf s book (at .chunk)) ≡ true) where
+  module _ (f : recordFits s book ≡ true) (l : listingChunk (directoryOf s book) (shapeOf book) (at .chunk) ≡ true) (is : isListing (directoryOf s book (at .chunk)) ≡ true) where
     pub own-missing : nthIn (limitsOf s book) Listing (chunkBytes s book (at .chunk)) (at .entry) ≡ HitNothing → ownedAt s book at ≡ Nothing
     unfolding ownedAt canList
     own-missing h = rw (f, l) (ap (ownedOf book (at .chunk)) (nth-nothing s book (at .chunk) is (at .entry) h))
@@ -63,7 +62,7 @@ module _ (s : List ℕ) (bytes : (i : ℕ) → getD s i 0 < 256) (book : Record)
   none-beside : (t : Step) → stepped s book at ≡ t → OwnBeside s t Nothing → ownedAt s book at ≡ Nothing → Beside
   none-beside t e n o = rw (e, o) n
 
-  module _ (f : bookFits s book ≡ true) (l : listingChunk (directoryOf s book) (shapeOf book) (at .chunk) ≡ true) where
+  module _ (f : recordFits s book ≡ true) (l : listingChunk (directoryOf s book) (shapeOf book) (at .chunk) ≡ true) where
     is : isListing p ≡ true
     is = listing-chunk (directoryOf s book) (shapeOf book) (at .chunk) l .1
 
@@ -83,17 +82,17 @@ module _ (s : List ℕ) (bytes : (i : ℕ) → getD s i 0 < 256) (book : Record)
         rw (t, o) (own-padded s book (at .chunk) is bytes (r .1) e (r .2))
 
   pub own-beside : Beside
-  own-beside = fits (bookFits s book) refl
+  own-beside = fits (recordFits s book) refl
     where
-      other : bookFits s book ≡ true → listingChunk (directoryOf s book) (shapeOf book) (at .chunk) ≡ false → (e : Bool) → eqb (at .chunk) noChunk ≡ e → Beside
+      other : recordFits s book ≡ true → listingChunk (directoryOf s book) (shapeOf book) (at .chunk) ≡ false → (e : Bool) → eqb (at .chunk) noChunk ≡ e → Beside
       other f l true e = none-beside _ (step-end s book at f (eqb-true (at .chunk) noChunk e)) tt (own-other s book at l)
       other f l false e = none-beside _ (step-other s book at f (eqb-false (at .chunk) noChunk e) l) tt (own-other s book at l)
 
-      chunk : bookFits s book ≡ true → (l : Bool) → listingChunk (directoryOf s book) (shapeOf book) (at .chunk) ≡ l → Beside
+      chunk : recordFits s book ≡ true → (l : Bool) → listingChunk (directoryOf s book) (shapeOf book) (at .chunk) ≡ l → Beside
       chunk f true l = entry-beside f l _ refl
       chunk f false l = other f l _ refl
 
-      fits : (f : Bool) → bookFits s book ≡ f → Beside
+      fits : (f : Bool) → recordFits s book ≡ f → Beside
       fits true f = chunk f _ refl
       fits false f = none-beside _ (step-unfit s book at f) tt (own-unfit s book at f)
 

@@ -1,6 +1,5 @@
 -- A page gives what the steps give, for any file and any record: its numbers are those of the entries that the steps from entry 0 of its chunk
 -- report while they stay in that chunk, and its next chunk is the one that they go on in.
--- Assumes nothing.
 use mathlib.Core.Path.{_≡_, refl, sym, ap, _∙_}
 use mathlib.Core.Bool.{Bool, true, false, cond}
 use mathlib.Core.List.{List}
@@ -13,7 +12,7 @@ use Rattle.refusals.specs.Refusals.{refusalOf}
 use Rattle.chunk.specs.Chunk.{entriesIn}
 use Rattle.header.specs.declared.Record.{Record}
 use Rattle.tree.specs.Shape.{nextOf}
-use Rattle.book.specs.Book.{directoryOf, bookFits, reportOf}
+use Rattle.book.specs.Book.{directoryOf, recordFits, reportOf}
 use Rattle.listing.specs.Listing.{cursorAt, numbersOf, reportsIn, canList, hasRoom, pageOf, pageIn}
 use Rattle.listing.specs.Whole.{stepsFrom, PageSteps}
 use Rattle.listing.specs.declared.Page.the-variants.{Entries, Short, Refused}
@@ -31,7 +30,7 @@ unfolding pageOf pageIn canList
 page-steps s book c t n next e =
     let es = entriesIn (directoryOf s book c) in
     let a = answered (canList s book c) (hasRoom s book c (length t)) (length es) (nextOf (directoryOf s book c)) n next e in
-    let can = and-both (bookFits s book) _ (a .0) in
+    let can = and-both (recordFits s book) _ (a .0) in
     let rs = reportsIn s book c in
     let k : length rs ≡ n = length-map es (reportOf book c) ∙ a .2 in
     let m = run-steps s book (cursorAt c 0) (cursorAt (nextOf (directoryOf s book c)) 0) rs (run-chunk s book c (can .0) (can .1)) in

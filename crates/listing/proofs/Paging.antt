@@ -1,5 +1,4 @@
 -- A page by its cases: the answer and the lent slice for each of its answers.
--- Assumes nothing.
 use mathlib.Core.Path.{_≡_}
 use mathlib.Core.Bool.{true, false}
 use mathlib.Core.List.{List}
@@ -9,11 +8,11 @@ use lib.ListN.{length}
 use lib.Seq.{sets}
 use borrow.Author.Tests.{le-leb, lt-leb}
 use Rattle.refusals.specs.Refusals.{refusalOf}
-use Rattle.chunk.specs.Chunk.{countOf, entriesIn}
+use Rattle.chunk.specs.Chunk.{entryCount, entriesIn}
 use Rattle.header.specs.declared.Record.{Record}
 use Rattle.tree.specs.Shape.{nextOf, listingChunk}
 use Rattle.tree.proofs.Chunks.{listing-chunk}
-use Rattle.book.specs.Book.{chunkBytes, directoryOf, shapeOf, bookFits}
+use Rattle.book.specs.Book.{chunkBytes, directoryOf, shapeOf, recordFits}
 use Rattle.listing.specs.Listing.{numbersOf, reportsIn, canList, hasRoom, pageOf, pageIn}
 use Rattle.listing.specs.declared.Page.{Page}
 use Rattle.listing.specs.declared.Page.the-variants.{Entries, Short, Refused}
@@ -24,16 +23,16 @@ module _ (s : List ℕ) (book : Record) (c : ℕ) (t : List ℕ) where
   abbrev pub Answers : Page → List ℕ → Type 0
   Answers r u = (r ≡ pageOf s book c (length t)) × (u ≡ pageIn s book c t)
 
-  pub page-unfit : bookFits s book ≡ false → Answers (Refused (refusalOf 17)) t
+  pub page-unfit : recordFits s book ≡ false → Answers (Refused (refusalOf 17)) t
   unfolding pageOf pageIn canList
   page-unfit f = (rw f, rw f)
 
-  module _ (f : bookFits s book ≡ true) where
+  module _ (f : recordFits s book ≡ true) where
     pub page-other : listingChunk (directoryOf s book) (shapeOf book) c ≡ false → Answers (Refused (refusalOf 17)) t
     unfolding pageOf pageIn canList
     page-other h = (rw (f, h), rw (f, h))
 
-    module _ (h : listingChunk (directoryOf s book) (shapeOf book) c ≡ true) (n : ℕ) (z : n ≡ countOf (chunkBytes s book c)) where
+    module _ (h : listingChunk (directoryOf s book) (shapeOf book) c ≡ true) (n : ℕ) (z : n ≡ entryCount (chunkBytes s book c)) where
       count-right : length (entriesIn (directoryOf s book c)) ≡ n
       count-right = let l = entries-length s book c (listing-chunk (directoryOf s book) (shapeOf book) c h .1) in omega arith
 

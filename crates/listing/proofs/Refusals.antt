@@ -1,5 +1,4 @@
 -- Listing has one refusal: 17, which belongs to no chunk.
--- Assumes nothing.
 use mathlib.Core.Path.{_≡_, sym}
 use mathlib.Core.Bool.{Bool, true, false, cond}
 use mathlib.Core.List.{List}
@@ -13,7 +12,7 @@ use Rattle.chunk.specs.Chunk.{Parsed, entriesIn}
 use Rattle.seek.specs.Seek.{Sought, absent, found, nth}
 use Rattle.header.specs.declared.Record.{Record}
 use Rattle.tree.specs.Shape.{nextOf, listingChunk}
-use Rattle.book.specs.Book.{directoryOf, shapeOf, bookFits}
+use Rattle.book.specs.Book.{directoryOf, shapeOf, recordFits}
 use Rattle.listing.specs.Listing.{stepOf, entryStep, stepped, canList, hasRoom, pageOf}
 use Rattle.listing.specs.declared.Cursor.{Cursor}
 use Rattle.listing.specs.declared.Step.{Step}
@@ -24,7 +23,7 @@ use Rattle.listing.specs.declared.Page.the-variants.{Entries, Short}
 pub step-refusal : (s : List ℕ) (book : Record) (at : Cursor) (q : Refusal) → stepped s book at ≡ Step.Refused q → q ≡ refusalOf 17
 unfolding stepped entryStep
 step-refusal s book at q e =
-    go (bookFits s book) (eqb (at .chunk) noChunk) (listingChunk (directoryOf s book) (shapeOf book) (at .chunk)) (nth (at .entry) (entriesIn p)) e
+    go (recordFits s book) (eqb (at .chunk) noChunk) (listingChunk (directoryOf s book) (shapeOf book) (at .chunk)) (nth (at .entry) (entriesIn p)) e
   where
     p : Parsed
     p = directoryOf s book (at .chunk)

@@ -1,5 +1,4 @@
 -- A run of steps: each reports an entry. The steps from entry 0 of a listing chunk run through its entries, and come to its next chunk.
--- Assumes nothing.
 use mathlib.Core.Path.{_≡_, refl, sym, ap, _∙_}
 use mathlib.Core.Bool.{true}
 use mathlib.Core.List.{List, [], _∷_, _++_, map}
@@ -11,7 +10,7 @@ use Rattle.chunk.specs.Chunk.{Entry, entriesIn}
 use Rattle.seek.specs.Seek.{found, nth}
 use Rattle.header.specs.declared.Record.{Record}
 use Rattle.tree.specs.Shape.{nextOf, listingChunk}
-use Rattle.book.specs.Book.{directoryOf, shapeOf, bookFits, reportOf}
+use Rattle.book.specs.Book.{directoryOf, shapeOf, recordFits, reportOf}
 use Rattle.book.specs.declared.Report.{Report}
 use Rattle.listing.specs.Listing.{cursorAt, stepped, reportsIn}
 use Rattle.listing.specs.Whole.{cursorIn, stepsFrom, cursorAfter}
@@ -68,7 +67,7 @@ nth-first zero (y ∷ ys) x xs e = ap found (let z : y ≡ x = cc in z)
 nth-first (suc i) [] x xs e = absurd (let z : _≡_ {A = ℕ} 0 1 = cc in omega arith)
 nth-first (suc i) (y ∷ ys) x xs e = nth-first i ys x xs e
 
-module _ (s : List ℕ) (book : Record) (c : ℕ) (fits : bookFits s book ≡ true) (here : listingChunk (directoryOf s book) (shapeOf book) c ≡ true) where
+module _ (s : List ℕ) (book : Record) (c : ℕ) (fits : recordFits s book ≡ true) (here : listingChunk (directoryOf s book) (shapeOf book) c ≡ true) where
   abbrev es : List Entry
   es = entriesIn (directoryOf s book c)
 

@@ -1,5 +1,4 @@
 -- A step by its cases: one law for each of its answers.
--- Assumes nothing.
 use mathlib.Core.Path.{_≡_, sym, ap, _∙_}
 use mathlib.Core.Bool.{true, false}
 use mathlib.Core.List.{List}
@@ -10,13 +9,13 @@ use borrow.Author.Tests.{lt-ltb, le-ltb, eq-eqb, ne-eqb}
 use Rattle.refusals.specs.Refusals.{noChunk, refusalOf}
 use Rattle.entries.specs.declared.Place.{Place}
 use Rattle.entries.specs.declared.Kind.the-variants.{Listing}
-use Rattle.chunk.specs.Chunk.{Entry, Parsed, entryOf, countOf, entriesIn}
+use Rattle.chunk.specs.Chunk.{Entry, Parsed, entryOf, entryCount, entriesIn}
 use Rattle.seek.specs.Seek.{absent, found, nth, nthIn}
 use Rattle.seek.specs.declared.Hit.{Hit}
 use Rattle.seek.specs.declared.Hit.the-variants.{At, Nothing}
 use Rattle.header.specs.declared.Record.{Record}
 use Rattle.tree.specs.Shape.{isListing, nextOf, listingChunk}
-use Rattle.book.specs.Book.{limitsOf, chunkBytes, directoryOf, shapeOf, bookFits, reportOf, reportAt}
+use Rattle.book.specs.Book.{limitsOf, chunkBytes, directoryOf, shapeOf, recordFits, reportOf, reportAt}
 use Rattle.listing.specs.Listing.{cursorAt, movedOn, entryStep, stepped}
 use Rattle.listing.specs.declared.Cursor.{Cursor}
 use Rattle.listing.specs.declared.Step.the-variants.{Entry as Reported, End, Refused}
@@ -51,10 +50,10 @@ module _ (s : List ℕ) (book : Record) (at : Cursor) (is : isListing (directory
   read-absent h = entry-absent book (directoryOf s book (at .chunk)) at (nth-nothing s book (at .chunk) is (at .entry) h)
 
   module _ (e : Place) (h : hit ≡ At e) where
-    pub read-low : at .entry < countOf bytes
+    pub read-low : at .entry < entryCount bytes
     read-low = nth-hit s book (at .chunk) is (at .entry) e h .0
 
-    pub read-inside : at .entry + 1 < countOf bytes
+    pub read-inside : at .entry + 1 < entryCount bytes
         → entryStep book (directoryOf s book (at .chunk)) at ≡ Reported (reportAt s book (at .chunk) e) (cursorAt (at .chunk) (at .entry + 1))
     read-inside l =
         let n = nth-hit s book (at .chunk) is (at .entry) e h in
@@ -62,7 +61,7 @@ module _ (s : List ℕ) (book : Record) (at : Cursor) (is : isListing (directory
         entry-inside book (directoryOf s book (at .chunk)) at (entryOf bytes e) (n .1) (omega arith)
         ∙ ap (λ r. Reported r (cursorAt (at .chunk) (at .entry + 1))) (sym (n .2))
 
-    pub read-last : countOf bytes ≤ at .entry + 1
+    pub read-last : entryCount bytes ≤ at .entry + 1
         → entryStep book (directoryOf s book (at .chunk)) at ≡ Reported (reportAt s book (at .chunk) e) (cursorAt (nextOf (directoryOf s book (at .chunk))) 0)
     read-last l =
         let n = nth-hit s book (at .chunk) is (at .entry) e h in
@@ -71,11 +70,11 @@ module _ (s : List ℕ) (book : Record) (at : Cursor) (is : isListing (directory
         ∙ ap (λ r. Reported r (cursorAt (nextOf (directoryOf s book (at .chunk))) 0)) (sym (n .2))
 
 module _ (s : List ℕ) (book : Record) (at : Cursor) where
-  pub step-unfit : bookFits s book ≡ false → stepped s book at ≡ Refused (refusalOf 17)
+  pub step-unfit : recordFits s book ≡ false → stepped s book at ≡ Refused (refusalOf 17)
   unfolding stepped
   step-unfit f = rw f
 
-  module _ (f : bookFits s book ≡ true) where
+  module _ (f : recordFits s book ≡ true) where
     pub step-end : at .chunk ≡ noChunk → stepped s book at ≡ End at
     unfolding stepped
     step-end h = rw (f, eq-eqb (at .chunk) noChunk h)
@@ -90,5 +89,5 @@ module _ (s : List ℕ) (book : Record) (at : Cursor) where
       step-entry h = rw (f, ne-eqb (at .chunk) noChunk n, h)
 
 -- the number of a listing chunk is not that of none
-pub some-chunk : (s : List ℕ) (book : Record) (c : ℕ) → bookFits s book ≡ true → listingChunk (directoryOf s book) (shapeOf book) c ≡ true → c ≡ noChunk → ⊥
+pub some-chunk : (s : List ℕ) (book : Record) (c : ℕ) → recordFits s book ≡ true → listingChunk (directoryOf s book) (shapeOf book) c ≡ true → c ≡ noChunk → ⊥
 some-chunk s book c fits here e = omega (arith, listing-chunk (directoryOf s book) (shapeOf book) c here .0, fits-told s book fits .few-chunks)

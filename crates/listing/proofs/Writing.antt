@@ -1,5 +1,4 @@
 -- A page as it is written: the numbers of the entries that are left make the whole.
--- Assumes nothing.
 use mathlib.Core.Path.{_≡_, refl, sym, ap, _∙_}
 use mathlib.Core.Bool.{true}
 use mathlib.Core.List.{List, [], _∷_, _++_, map, flatMap}
@@ -12,7 +11,7 @@ use Rattle.entries.specs.Entry.{itemAt}
 use Rattle.entries.specs.declared.Place.{Place}
 use Rattle.entries.specs.declared.Item.the-variants.{Good, Bad}
 use Rattle.entries.specs.declared.Kind.the-variants.{Listing}
-use Rattle.chunk.specs.Chunk.{Entry, all, entryOf, entriesAt, headOf, countOf, tailOf, entriesIn}
+use Rattle.chunk.specs.Chunk.{Entry, all, entryOf, entriesAt, firstPlace, entryCount, tailLength, entriesIn}
 use Rattle.header.specs.declared.Record.{Record}
 use Rattle.tree.specs.Shape.{isListing}
 use Rattle.book.specs.Book.{limitsOf, chunkBytes, directoryOf, reportOf, reportAt}
@@ -38,29 +37,29 @@ module _ (s : List ℕ) (book : Record) (c : ℕ) where
 
   -- before entry i is written: the entries from i on stand from `at` on, and with their numbers the page is whole
   pub record Left (t₀ : List ℕ) (t : List ℕ) (at i : ℕ) : Type 0 where
-    pub low : i ≤ countOf bytes
+    pub low : i ≤ entryCount bytes
     pub size : length t ≡ length t₀
-    pub read : entriesAt (limitsOf s book) Listing bytes (4096 - tailOf bytes) (countOf bytes - i) at ≡ all (drop i es)
+    pub read : entriesAt (limitsOf s book) Listing bytes (4096 - tailLength bytes) (entryCount bytes - i) at ≡ all (drop i es)
     pub whole : sets t (5 * i) (numbersOf (map (reportOf book c) (drop i es))) ≡ sets t₀ 0 (numbersOf (reportsIn s book c))
 
   module _ (is : isListing (directoryOf s book c) ≡ true) where
-    pub left-start : (t : List ℕ) → Left t t (headOf Listing) 0
+    pub left-start : (t : List ℕ) → Left t t (firstPlace Listing) 0
     left-start t = record { low = omega arith; size = refl; read = entries-left s book c is; whole = refl }
 
     -- an entry is there
-    pub left-there : (t₀ t : List ℕ) (at i : ℕ) → Left t₀ t at i → i < countOf bytes → itemAt (limitsOf s book) Listing bytes at ≡ Bad → ⊥
+    pub left-there : (t₀ t : List ℕ) (at i : ℕ) → Left t₀ t at i → i < entryCount bytes → itemAt (limitsOf s book) Listing bytes at ≡ Bad → ⊥
     left-there t₀ t at i h l b =
-        let m = left-more (limitsOf s book) bytes (4096 - tailOf bytes) (countOf bytes) i at es l (h .read) in
+        let m = left-more (limitsOf s book) bytes (4096 - tailLength bytes) (entryCount bytes) i at es l (h .read) in
         let q : Bad ≡ Good (m .0) = sym b ∙ m .1 in
         let z : _≡_ {A = ℕ} 0 1 = cc in
         omega arith
 
     -- a turn writes the numbers of entry i
-    pub left-turn : (t₀ t u : List ℕ) (at i : ℕ) (e : Place) → Left t₀ t at i → i < countOf bytes → itemAt (limitsOf s book) Listing bytes at ≡ Good e
+    pub left-turn : (t₀ t u : List ℕ) (at i : ℕ) (e : Place) → Left t₀ t at i → i < entryCount bytes → itemAt (limitsOf s book) Listing bytes at ≡ Good e
         → u ≡ sets t (5 * i) (fiveOf (reportAt s book c e)) → Left t₀ u (e .next) (i + 1)
     unfolding numbersOf flatMap
     left-turn t₀ t u at i e h l g q =
-        let m = left-more (limitsOf s book) bytes (4096 - tailOf bytes) (countOf bytes) i at es l (h .read) in
+        let m = left-more (limitsOf s book) bytes (4096 - tailLength bytes) (entryCount bytes) i at es l (h .read) in
         let p : m .0 ≡ e = (let z : Good (m .0) ≡ Good e = sym (m .1) ∙ g in cc) in
         let five = fiveOf (reportAt s book c e) in
         let rest = numbersOf (map (reportOf book c) (drop (i + 1) es)) in
@@ -75,7 +74,7 @@ module _ (s : List ℕ) (book : Record) (c : ℕ) where
         }
 
     -- none is left
-    pub left-end : (t₀ t : List ℕ) (at i : ℕ) → Left t₀ t at i → countOf bytes ≤ i → t ≡ sets t₀ 0 (numbersOf (reportsIn s book c))
+    pub left-end : (t₀ t : List ℕ) (at i : ℕ) → Left t₀ t at i → entryCount bytes ≤ i → t ≡ sets t₀ 0 (numbersOf (reportsIn s book c))
     unfolding numbersOf flatMap
     left-end t₀ t at i h l =
         let z = entries-length s book c is in

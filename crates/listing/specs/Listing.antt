@@ -1,5 +1,4 @@
 -- Listing: the cursor, the answer of a step, an entry's own bytes, and a page, which is all entries of one chunk (FORMAT K7 to K13, K25).
--- Assumes nothing.
 use Prim.Native.Nat.{ℕ, _+_, _*_}
 use mathlib.Core.Bool.{Bool, cond, _&&_}
 use mathlib.Core.List.{List, [], _∷_, map, flatMap}
@@ -12,7 +11,7 @@ use Rattle.chunk.specs.Chunk.{Parsed, entriesIn}
 use Rattle.seek.specs.Seek.{Sought, absent, found, nth}
 use Rattle.header.specs.declared.Record.{Record}
 use Rattle.tree.specs.Shape.{nextOf, listingChunk}
-use Rattle.book.specs.Book.{directoryOf, shapeOf, bookFits, reportOf, ownOf, OwnBytes}
+use Rattle.book.specs.Book.{directoryOf, shapeOf, recordFits, reportOf, ownOf, OwnBytes}
 use Rattle.book.specs.declared.Report.{Report}
 use Rattle.listing.specs.declared.Cursor.{Cursor}
 use Rattle.listing.specs.declared.Step.{Step}
@@ -24,7 +23,7 @@ use Rattle.listing.specs.declared.Page.the-variants.{Entries, Short}
 
 -- chunk c can be listed: the record can be asked, and c is a listing chunk below the count (K12, K13)
 unfoldable pub canList : List ℕ → Record → ℕ → Bool
-canList s book c = bookFits s book && listingChunk (directoryOf s book) (shapeOf book) c
+canList s book c = recordFits s book && listingChunk (directoryOf s book) (shapeOf book) c
 
 -- ---- the cursor
 
@@ -54,7 +53,7 @@ entryStep book p at = stepOf book p (at .chunk) (at .entry) (nth (at .entry) (en
 -- the record first (K12), then the end, with any entry number (K10), then the chunk and the entry (K11, K13)
 unfoldable pub stepped : List ℕ → Record → Cursor → Step
 stepped s book at =
-    cond (bookFits s book)
+    cond (recordFits s book)
     (cond (eqb (at .chunk) noChunk)
     (End at)
     (cond (listingChunk (directoryOf s book) (shapeOf book) (at .chunk))

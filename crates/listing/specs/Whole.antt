@@ -1,5 +1,4 @@
 -- Several steps: what they report, and where they come to. The listing of a whole book, and what steps and pages promise of it.
--- Assumes nothing.
 use Prim.Native.Nat.{ℕ, zero, suc, _+_, _<_}
 use mathlib.Core.Path.{_≡_}
 use mathlib.Core.List.{List, [], _∷_, _++_, flatMap}
@@ -8,7 +7,7 @@ use lib.Seq.{sets}
 use Rattle.refusals.specs.Refusals.{noChunk}
 use Rattle.header.specs.declared.Record.{Record}
 use Rattle.tree.specs.Chain.{chain}
-use Rattle.tree.specs.Demand.{Listed}
+use Rattle.tree.specs.Exact.{ChainListed}
 use Rattle.book.specs.Book.{directoryOf, shapeOf}
 use Rattle.book.specs.declared.Report.{Report}
 use Rattle.listing.specs.Listing.{cursorAt, startOf, stepped, numbersOf, reportsIn, pageIn}
@@ -61,7 +60,7 @@ pub record ListingExact (s : List ℕ) (book : Record) : Type 0 where
   -- where every further step says so and hands the same cursor back
   pub stays : (n : ℕ) → stepped s book (cursorAfter s book n (lastCursor s book)) ≡ End (lastCursor s book)
   -- the chain has every listing chunk below the count, each once, and the names of its entries rise
-  pub complete : Listed (directoryOf s book) (shapeOf book)
+  pub complete : ChainListed (directoryOf s book) (shapeOf book)
 
 -- ---- a page of n entries in the slice t, with its next chunk, and the steps in chunk c
 

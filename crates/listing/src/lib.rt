@@ -5,7 +5,7 @@ ghost use Prim.Native.Nat.{_+_, _*_, _≤_};
 ghost use lib.ListN.{length};
 ghost use lib.Seq.{sets};
 ghost use Rattle.fields.specs.Part.{partOf};
-ghost use Rattle.chunk.specs.Chunk.{countOf};
+ghost use Rattle.chunk.specs.Chunk.{entryCount};
 ghost use Rattle.tree.specs.Shape.{isListing, nextOf};
 ghost use Rattle.book.specs.Book.{chunkBytes, directoryOf};
 ghost use Rattle.listing.specs.Listing.{startOf, entryStep, stepped, ownedAt, OwnBeside, fiveOf, numbersOf, reportsIn, pageOf, pageIn, contentPart};
@@ -90,13 +90,13 @@ impl Cursor {
     pub fn step(self, file: &[u8], book: Record) -> Step
         ensures { λ r. ⌜ r ≡ stepped (now (file .entry)) book self ⌝ }
     {
-        if !book::fits(file, book) {
+        if !book::record_fits(file, book) {
             return Step::Refused(refusals::refuse(17));
         }
         if self.chunk == refusals::no_chunk() as u64 {
             return Step::End(self);
         }
-        match book::met(file, book, self.chunk) {
+        match book::checked_chunk(file, book, self.chunk) {
             Chunk::Listing(_, next) => step_in(file, book, self, next),
             Chunk::Index => Step::Refused(refusals::refuse(17)),
             Chunk::Refused(_) => Step::Refused(refusals::refuse(17)),
@@ -108,10 +108,10 @@ impl Cursor {
         ensures bytes { λ r. ⌜ r ≡ ownedAt (now (file .entry)) book self ⌝ }
         ensures beside { λ r. ⌜ OwnBeside (now (file .entry)) (stepped (now (file .entry)) book self) r ⌝ }
     {
-        if !book::fits(file, book) {
+        if !book::record_fits(file, book) {
             return Owned::Nothing;
         }
-        let Chunk::Listing(_, _) = book::met(file, book, self.chunk) else {
+        let Chunk::Listing(_, _) = book::checked_chunk(file, book, self.chunk) else {
             return Owned::Nothing;
         };
         let c = book::chunk_bytes(file, book, self.chunk);
@@ -140,9 +140,9 @@ fn put_report(out: &mut [u64], at: usize, r: Report)
 }
 
 // Writes the numbers of every entry of a listing chunk that was checked, one behind another. Since it was checked, each of them is there.
-fn put_entries(file: &[u8], book: Record, chunk: u64, out: &mut [u64])
+fn put_reports(file: &[u8], book: Record, chunk: u64, out: &mut [u64])
     requires { ⌜ isListing (directoryOf (now file) book chunk) ≡ true ⌝ }
-    requires { ⌜ 5 * countOf (chunkBytes (now file) book chunk) ≤ length (now out) ⌝ }
+    requires { ⌜ 5 * entryCount (chunkBytes (now file) book chunk) ≤ length (now out) ⌝ }
     ensures { λ _. ⌜ now (out .exit) ≡ sets (now (out .entry)) 0 (numbersOf (reportsIn (now (file .entry)) book chunk)) ⌝ }
 {
     let c = book::chunk_bytes(file, book, chunk);
@@ -161,14 +161,14 @@ fn put_entries(file: &[u8], book: Record, chunk: u64, out: &mut [u64])
 }
 
 // The entries of one listing chunk: their numbers, five an entry, from the front of `out` on, their count, and the chunk that follows.
-pub fn page_of(file: &[u8], book: Record, chunk: u64, out: &mut [u64]) -> Page
+pub fn chunk_page(file: &[u8], book: Record, chunk: u64, out: &mut [u64]) -> Page
     ensures answer { λ r. ⌜ r ≡ pageOf (now (file .entry)) book chunk (length (now (out .entry))) ⌝ }
     ensures written { λ _. ⌜ now (out .exit) ≡ pageIn (now (file .entry)) book chunk (now (out .entry)) ⌝ }
 {
-    if !book::fits(file, book) {
+    if !book::record_fits(file, book) {
         return Page::Refused(refusals::refuse(17));
     }
-    let next = match book::met(file, book, chunk) {
+    let next = match book::checked_chunk(file, book, chunk) {
         Chunk::Listing(_, next) => next,
         Chunk::Index => return Page::Refused(refusals::refuse(17)),
         Chunk::Refused(_) => return Page::Refused(refusals::refuse(17)),
@@ -177,7 +177,7 @@ pub fn page_of(file: &[u8], book: Record, chunk: u64, out: &mut [u64]) -> Page
     if out.len() < 5 * (total as usize) {
         return Page::Short;
     }
-    put_entries(file, book, chunk, out);
+    put_reports(file, book, chunk, out);
     Page::Entries(total, next)
 }
 

@@ -1,5 +1,4 @@
 -- A lookup reads the blocks of its descent and no other byte: `only-blocks`.
--- Assumes nothing.
 use mathlib.Core.Path.{_≡_, refl, ap₂}
 use mathlib.Core.Logic.{inl, inr}
 use mathlib.Core.List.{List, [], _∷_}

@@ -1,5 +1,4 @@
 -- On a book that opening accepts a lookup finds exactly what is there, and its trail is the descent: `complete`.
--- Assumes nothing.
 use mathlib.Core.Path.{_≡_, refl, sym, ap, _∙_}
 use mathlib.Core.Logic.{_≢_}
 use mathlib.Core.List.{List, _++_}
@@ -12,12 +11,12 @@ use Rattle.fields.proofs.Tests.{never}
 use Rattle.refusals.specs.declared.Refusal.{Refusal}
 use Rattle.chunk.specs.Chunk.{Entry}
 use Rattle.header.specs.declared.Record.{Record}
-use Rattle.header.proofs.Accepted.{accepted}
+use Rattle.header.proofs.Accepted.{header-accepted}
 use Rattle.tree.specs.Descent.{Outcome, found, absent, refused, trail}
 use Rattle.tree.specs.Tree.{top}
-use Rattle.tree.specs.Demand.{Demand3}
+use Rattle.tree.specs.Exact.{LookupExact}
 use Rattle.tree.proofs.Descended.{trail-bound}
-use Rattle.tree.proofs.Demanded.{demand-3}
+use Rattle.tree.proofs.LookupExact.{lookup-exact}
 use Rattle.book.specs.Book.{directoryOf, shapeOf, reportOf}
 use Rattle.book.specs.declared.Report.{Report}
 use Rattle.opening.specs.Opened.{opened}
@@ -66,7 +65,7 @@ module _ (s : List ℕ) (book : Record) (name was : List ℕ) (o : OpenedBook s 
   unfolding trail
   in-trail =
       let b = trail-bound (directoryOf s book) (shapeOf book) name (book .depth) (top (shapeOf book)) in
-      let h = accepted s book (o .head) .depth-high in
+      let h = header-accepted s book (o .head) .depth-high in
       omega arith
 
   trail-is : ((x : Refusal) → lookedUp s book name (length was) ≢ Refused x)
@@ -80,7 +79,7 @@ pub complete : (s : List ℕ) (book : Record) (name was : List ℕ) → opened s
     → Complete s book name was (lookedUp s book name (length was)) (trailAfter s book name was)
 complete s book name was accepts some short room =
     let b : OpenedBook s book = opened-book s book accepts in
-    let d : Demand3 (directoryOf s book) (shapeOf book) name = demand-3 (directoryOf s book) (shapeOf book) (b .directory) name in
+    let d : LookupExact (directoryOf s book) (shapeOf book) name = lookup-exact (directoryOf s book) (shapeOf book) (b .directory) name in
     let n : Effort = effortIn s book name in
     let o : Outcome = outcomeIn s book name in
     let a : lookedUp s book name (length was) ≡ answerOf book n o = answer-is s book name was b room some short in

@@ -1,5 +1,4 @@
 -- What a descent takes is made of what its first chunk and the others take: `effort-one`, `effort-more`.
--- Assumes nothing.
 use mathlib.Core.Path.{_≡_, ap, ap₂}
 use mathlib.Core.List.{List, [], _∷_}
 use Prim.Native.Nat.{ℕ, suc, _+_}

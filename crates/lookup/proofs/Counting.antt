@@ -1,5 +1,4 @@
 -- What the number of comparisons is worth: `counted`.
--- Assumes nothing.
 use mathlib.Core.Path.{_≡_, refl, sym, ap}
 use mathlib.Core.Logic.{inl, inr}
 use mathlib.Core.Bool.{Bool, true, false, cond}
@@ -16,7 +15,7 @@ use Rattle.seek.proofs.Counts.{cost-few}
 use Rattle.header.specs.declared.Record.{Record}
 use Rattle.tree.specs.Lists.{In}
 use Rattle.tree.specs.Descent.{Outcome, found, absent, refused}
-use Rattle.book.specs.Book.{directoryOf, bookFits}
+use Rattle.book.specs.Book.{directoryOf, recordFits}
 use Rattle.book.specs.Search.{costAt}
 use Rattle.book.specs.declared.Report.{Report}
 use Rattle.lookup.specs.Lookup.{outcomeIn, trailIn, costs, effortIn, answerOf, lookedUp}
@@ -41,7 +40,7 @@ only-refusal x i = ((λ y n q. never (cc)), (λ n q. never (cc)))
 module _ (s : List ℕ) (book : Record) (name : List ℕ) where
   only : (places : ℕ) → Only (effortIn s book name) (lookedUp s book name places)
   unfolding lookedUp
-  only places = go (askable name) (leb 5 places) (bookFits s book)
+  only places = go (askable name) (leb 5 places) (recordFits s book)
     where
       go : (a b c : Bool)
           → Only (effortIn s book name) (cond a (cond b (cond c (answerOf book (effortIn s book name) (outcomeIn s book name)) (Refused (refusalOf 17))) (Refused (refusalOf 16))) (Refused (refusalOf 15)))

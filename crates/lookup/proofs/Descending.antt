@@ -1,5 +1,4 @@
 -- The descent from one chunk on, made of that chunk's answer and of the descent from its child on.
--- Assumes nothing.
 use mathlib.Core.Path.{_≡_, refl, sym, ap, _∙_, subst}
 use mathlib.Core.Bool.{Bool, true, false, cond}
 use mathlib.Core.List.{List, [], _∷_}

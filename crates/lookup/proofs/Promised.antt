@@ -1,5 +1,4 @@
 -- What `lookup` promises, from its checks and from the descent.
--- Assumes nothing.
 use mathlib.Core.Path.{_≡_, refl, sym, ap, ap₂, _∙_}
 use mathlib.Core.Bool.{true, false}
 use mathlib.Core.List.{List}
@@ -12,7 +11,7 @@ use Rattle.names.specs.Names.{askable}
 use Rattle.header.specs.declared.Record.{Record}
 use Rattle.tree.specs.Tree.{top}
 use Rattle.tree.specs.Descent.{outcome, trail}
-use Rattle.book.specs.Book.{shapeOf, bookFits}
+use Rattle.book.specs.Book.{shapeOf, recordFits}
 use Rattle.opening.specs.Opened.{opened}
 use Rattle.opening.specs.declared.Opened.the-variants.{Book}
 use Rattle.lookup.specs.Lookup.{trailIn, outcomeIn, effortIn, answerOf, lookedUp, trailAfter}
@@ -57,13 +56,13 @@ module _ (s : List ℕ) (book : Record) (name was : List ℕ) where
     trail-short r h p = refuses 16 r p (rw (good, lt-leb 5 (length was) h) refl)
 
     module _ (room : 5 ≤ length was) where
-      pub record-bad : (r : Answer) → bookFits s book ≡ false → r ≡ Refused (refusalOf 17) → Promised r was
+      pub record-bad : (r : Answer) → recordFits s book ≡ false → r ≡ Refused (refusalOf 17) → Promised r was
       unfolding lookedUp
       record-bad r h p = refuses 17 r p (rw (good, le-leb 5 (length was) room, h) refl)
 
       -- ---- the descent
 
-      pub descended : (r : Answer) (is : List ℕ) → bookFits s book ≡ true → Descended s book name (book .depth) (top (shapeOf book)) 0 0 was r is → Promised r is
+      pub descended : (r : Answer) (is : List ℕ) → recordFits s book ≡ true → Descended s book name (book .depth) (top (shapeOf book)) 0 0 was r is → Promised r is
       unfolding lookedUp trailAfter outcome trail
       descended r is h d =
           let z : effortAfter s book name 0 0 (trailIn s book name) ≡ effortIn s book name =

@@ -1,5 +1,4 @@
 -- Each refusal of a lookup is 15, 16 or 17, and belongs to no chunk.
--- Assumes nothing.
 use mathlib.Core.Path.{_≡_, sym, ap}
 use mathlib.Core.Bool.{Bool, true, false, cond}
 use mathlib.Core.List.{List}
@@ -11,7 +10,7 @@ use Rattle.refusals.specs.declared.Refusal.{Refusal}
 use Rattle.names.specs.Names.{askable}
 use Rattle.header.specs.declared.Record.{Record}
 use Rattle.tree.specs.Descent.{Outcome, found, absent, refused}
-use Rattle.book.specs.Book.{bookFits}
+use Rattle.book.specs.Book.{recordFits}
 use Rattle.lookup.specs.Lookup.{outcomeIn, effortIn, answerOf, lookedUp}
 use Rattle.lookup.specs.declared.Effort.{Effort}
 use Rattle.lookup.specs.declared.Answer.the-variants.{Refused}
@@ -33,7 +32,7 @@ answer-told book n refused x q = told 17 x (omega arith) (omega arith) q
 pub lookup-refusal : (s : List ℕ) (book : Record) (name : List ℕ) (places : ℕ) (x : Refusal) → lookedUp s book name places ≡ Refused x
     → (15 ≤ x .number) × (x .number ≤ 17) × (x .chunk ≡ noChunk)
 unfolding lookedUp
-lookup-refusal s book name places x = go (askable name) (leb 5 places) (bookFits s book)
+lookup-refusal s book name places x = go (askable name) (leb 5 places) (recordFits s book)
   where
     go : (a b c : Bool) → cond a (cond b (cond c (answerOf book (effortIn s book name) (outcomeIn s book name)) (Refused (refusalOf 17))) (Refused (refusalOf 16))) (Refused (refusalOf 15)) ≡ Refused x → InTable x
     go true true true q = answer-told book (effortIn s book name) (outcomeIn s book name) x q

@@ -1,6 +1,5 @@
 -- What a search without a trail replies: by the checks of name and record (`replied-name`, `replied-record`, `replied-search`), by which refusals
 -- (`replied-refusal`), and what lookup answers where it comes to the descent's outcome (`looked-reply`).
--- Assumes nothing.
 use mathlib.Core.Path.{_≡_, refl, sym}
 use mathlib.Core.Logic.{_⊎_, inl, inr}
 use mathlib.Core.Bool.{Bool, true, false, cond}
@@ -13,7 +12,7 @@ use Rattle.refusals.specs.declared.Refusal.{Refusal}
 use Rattle.names.specs.Names.{askable}
 use Rattle.header.specs.declared.Record.{Record}
 use Rattle.tree.specs.Descent.{Outcome, found, absent, refused}
-use Rattle.book.specs.Book.{bookFits}
+use Rattle.book.specs.Book.{recordFits}
 use Rattle.lookup.specs.Lookup.{outcomeIn, effortIn, answerOf, lookedUp}
 use Rattle.lookup.specs.Reply.{replyTo, repliedTo, replyOf}
 use Rattle.lookup.specs.declared.Effort.{Effort}
@@ -28,11 +27,11 @@ module _ (s : List ℕ) (book : Record) (name : List ℕ) (o : Outcome) where
   replied-name h = rw h refl
 
   module _ (good : askable name ≡ true) where
-    pub replied-record : bookFits s book ≡ false → repliedTo s book name o ≡ Refused (refusalOf 17)
+    pub replied-record : recordFits s book ≡ false → repliedTo s book name o ≡ Refused (refusalOf 17)
     unfolding repliedTo
     replied-record h = rw (good, h) refl
 
-    pub replied-search : bookFits s book ≡ true → repliedTo s book name o ≡ replyTo book o
+    pub replied-search : recordFits s book ≡ true → repliedTo s book name o ≡ replyTo book o
     unfolding repliedTo
     replied-search h = rw (good, h) refl
 
@@ -40,7 +39,7 @@ module _ (s : List ℕ) (book : Record) (name : List ℕ) (o : Outcome) where
 
   pub replied-refusal : (x : Refusal) → repliedTo s book name o ≡ Refused x → (x ≡ refusalOf 15) ⊎ (x ≡ refusalOf 17)
   unfolding repliedTo
-  replied-refusal x = go (askable name) (bookFits s book) o
+  replied-refusal x = go (askable name) (recordFits s book) o
     where
       go : (a b : Bool) (o : Outcome) → cond a (cond b (replyTo book o) (Refused (refusalOf 17))) (Refused (refusalOf 15)) ≡ Refused x
           → (x ≡ refusalOf 15) ⊎ (x ≡ refusalOf 17)
@@ -59,7 +58,7 @@ reply-answer book n refused = refl
 
 pub looked-reply : (s : List ℕ) (book : Record) (name : List ℕ) (places : ℕ) → 5 ≤ places → replyOf (lookedUp s book name places) ≡ repliedTo s book name (outcomeIn s book name)
 unfolding lookedUp repliedTo
-looked-reply s book name places h = rw (le-leb 5 places h) (go (askable name) (bookFits s book))
+looked-reply s book name places h = rw (le-leb 5 places h) (go (askable name) (recordFits s book))
   where
     go : (a b : Bool)
         → replyOf (cond a (cond b (answerOf book (effortIn s book name) (outcomeIn s book name)) (Answer.Refused (refusalOf 17))) (Answer.Refused (refusalOf 15)))

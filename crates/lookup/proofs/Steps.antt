@@ -1,5 +1,4 @@
 -- What one chunk answers: the search in a listing chunk, and the way from an index chunk.
--- Assumes nothing.
 use mathlib.Core.Path.{_≡_, refl, sym, ap, _∙_}
 use mathlib.Core.Bool.{Bool, true, false, cond}
 use mathlib.Core.List.{List}
@@ -8,7 +7,7 @@ use lib.ListN.{getD}
 use Rattle.refusals.specs.Refusals.{refusalOf}
 use Rattle.names.specs.Names.{compared}
 use Rattle.chunk.specs.Chunk.{entriesIn}
-use Rattle.seek.specs.Seek.{Sought, lookup, chooseIn}
+use Rattle.seek.specs.Seek.{Sought, entryNamed, chooseIn}
 use Rattle.seek.specs.declared.CountedChild.{CountedChild}
 use Rattle.seek.specs.declared.Child.the-variants.{Below, Nowhere}
 use Rattle.seek.specs.declared.Hit.{Hit}
@@ -41,7 +40,7 @@ module _ (s : List ℕ) (book : Record) (name : List ℕ) (c : ℕ) where
       → afterSearch n spent x ≡ answerOf book (record { chunks = n; comparisons = spent + costAt s book name c }) (outcomeAt s book name 1 c)
   unfolding searchIn outcomeFrom
   listing-answer n spent x q =
-      ap (afterSearch n spent) (sym q) ∙ go (listingChunk (directoryOf s book) (shapeOf book) c) (lookup name (entriesIn (directoryOf s book c)))
+      ap (afterSearch n spent) (sym q) ∙ go (listingChunk (directoryOf s book) (shapeOf book) c) (entryNamed name (entriesIn (directoryOf s book c)))
     where
       go : (t : Bool) (o : Sought)
           → afterSearch n spent (cond t (searchOf book c (nextOf (directoryOf s book c)) (costAt s book name c) o) Search.Barred)

@@ -1,5 +1,4 @@
 -- The trail is written on the way back: a chunk's number goes in front of those that stand behind it already.
--- Assumes nothing.
 use mathlib.Core.Path.{_≡_, refl, ap, _∙_}
 use mathlib.Core.Bool.{Bool, true, false, cond}
 use mathlib.Core.List.{List, [], _∷_, _++_}

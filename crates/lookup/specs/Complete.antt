@@ -1,6 +1,5 @@
 -- What a lookup is worth on a book that opening accepts, for a name of 1 to 1,024 bytes and a trail of five places or more: it finds exactly what
 -- is there, and its trail is the descent.
--- Assumes nothing.
 use mathlib.Core.Path.{_≡_}
 use mathlib.Core.Logic.{_↔_, _≢_}
 use mathlib.Core.Bool.{true, false}
@@ -12,7 +11,7 @@ use Rattle.names.specs.Names.{below}
 use Rattle.chunk.specs.Chunk.{Entry}
 use Rattle.header.specs.declared.Record.{Record}
 use Rattle.tree.specs.Shape.{firstName}
-use Rattle.tree.specs.Demand.{Holds}
+use Rattle.tree.specs.Exact.{Holds}
 use Rattle.book.specs.Book.{directoryOf, shapeOf, reportOf}
 use Rattle.book.specs.declared.Report.{Report}
 use Rattle.lookup.specs.Lookup.{trailIn, countIn, effortIn}

@@ -1,5 +1,4 @@
 -- What the number of comparisons is worth, for every file and record, made-up ones too.
--- Assumes nothing.
 use mathlib.Core.Path.{_≡_}
 use mathlib.Core.List.{List}
 use Prim.Native.Nat.{ℕ, _+_, _*_, _^_, _≤_}

@@ -1,5 +1,4 @@
 -- The lookup of a name in a file by a record, which may be made up: its answer, and what it leaves in the lent trail (FORMAT, Asking).
--- Assumes nothing.
 use mathlib.Core.Bool.{Bool, true, false, cond}
 use mathlib.Core.List.{List, [], _∷_}
 use Prim.Native.Nat.{ℕ, _+_}
@@ -10,7 +9,7 @@ use Rattle.refusals.specs.Refusals.{refusalOf}
 use Rattle.names.specs.Names.{askable}
 use Rattle.header.specs.declared.Record.{Record}
 use Rattle.tree.specs.Descent.{Outcome, found, absent, refused, outcome, trail}
-use Rattle.book.specs.Book.{directoryOf, shapeOf, bookFits, reportOf}
+use Rattle.book.specs.Book.{directoryOf, shapeOf, recordFits, reportOf}
 use Rattle.book.specs.Search.{costAt}
 use Rattle.lookup.specs.declared.Effort.{Effort}
 use Rattle.lookup.specs.declared.Answer.{Answer}
@@ -53,7 +52,7 @@ unfoldable pub lookedUp : List ℕ → Record → List ℕ → ℕ → Answer
 lookedUp s book name places =
     cond (askable name)
     (cond (leb 5 places)
-    (cond (bookFits s book)
+    (cond (recordFits s book)
     (answerOf book (effortIn s book name) (outcomeIn s book name))
     (Refused (refusalOf 17)))
     (Refused (refusalOf 16)))

@@ -1,5 +1,4 @@
 -- The answer of a search that leaves no trail, and what a lookup answers without its effort.
--- Assumes nothing.
 use mathlib.Core.Path.{_≡_}
 use mathlib.Core.Bool.{cond}
 use mathlib.Core.List.{List}
@@ -8,7 +7,7 @@ use Rattle.refusals.specs.Refusals.{refusalOf}
 use Rattle.names.specs.Names.{askable}
 use Rattle.header.specs.declared.Record.{Record}
 use Rattle.tree.specs.Descent.{Outcome, found, absent, refused}
-use Rattle.book.specs.Book.{bookFits, reportOf}
+use Rattle.book.specs.Book.{recordFits, reportOf}
 use Rattle.opening.specs.Opened.{opened}
 use Rattle.opening.specs.declared.Opened.the-variants.{Book}
 use Rattle.lookup.specs.Lookup.{lookedUp}
@@ -24,7 +23,7 @@ replyTo book refused = Refused (refusalOf 17)
 
 -- the checks in their order (RO5): the name (R15), the record (R17, K12); then the search, which comes to an outcome
 unfoldable pub repliedTo : List ℕ → Record → List ℕ → Outcome → Reply
-repliedTo s book name o = cond (askable name) (cond (bookFits s book) (replyTo book o) (Refused (refusalOf 17))) (Refused (refusalOf 15))
+repliedTo s book name o = cond (askable name) (cond (recordFits s book) (replyTo book o) (Refused (refusalOf 17))) (Refused (refusalOf 15))
 
 -- an answer of lookup without its effort
 abbrev pub replyOf : Answer → Reply

@@ -1,5 +1,4 @@
 -- The descent step by step, as the private functions take it.
--- Assumes nothing.
 use mathlib.Core.Path.{_≡_}
 use mathlib.Core.Bool.{cond}
 use mathlib.Core.List.{List}

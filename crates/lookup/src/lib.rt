@@ -75,7 +75,7 @@ fn ask_listing(file: &[u8], book: Record, name: &[u8], c: u64, n: u32, spent: u3
 fn ask_index(file: &[u8], book: Record, name: &[u8], c: u64) -> Way
     ensures { λ r. ⌜ r ≡ wayAt (now (file .entry)) book (now (name .entry)) c ⌝ }
 {
-    let Chunk::Index = book::met(file, book, c) else {
+    let Chunk::Index = book::checked_chunk(file, book, c) else {
         return Way::Barred;
     };
     let chosen = book::child_in(file, book, name, c);
@@ -98,7 +98,7 @@ fn is_refusal(answer: Answer) -> bool
 }
 
 // Chunk c goes to place i of the trail, unless the answer is a refusal.
-fn mark(refused: bool, trail: &mut [u32], i: usize, c: u64)
+fn mark_trail(refused: bool, trail: &mut [u32], i: usize, c: u64)
     requires { ⌜ (i < length (now trail)) × (refused ≡ false → c < 2 ^ 32) ⌝ }
     ensures { λ _. ⌜ now (trail .exit) ≡ cond refused (now (trail .entry)) (set (now (trail .entry)) i c) ⌝ }
 {
@@ -126,14 +126,14 @@ fn descend(
     let n = (i + 1) as u32;
     if level < 2 {
         let answer = ask_listing(file, book, name, c, n, spent);
-        mark(is_refusal(answer), trail, i, c);
+        mark_trail(is_refusal(answer), trail, i, c);
         return answer;
     }
     match ask_index(file, book, name, c) {
         Way::Down(child, count) => {
             let so_far = spent + count;
             let answer = descend(file, book, name, level - 1, child, trail, i + 1, so_far);
-            mark(is_refusal(answer), trail, i, c);
+            mark_trail(is_refusal(answer), trail, i, c);
             answer
         }
         Way::Ends(count) => {
@@ -142,7 +142,7 @@ fn descend(
                 chunks: n,
                 comparisons: total,
             };
-            mark(false, trail, i, c);
+            mark_trail(false, trail, i, c);
             Answer::Absent(effort)
         }
         Way::Barred => Answer::Refused(refusals::refuse(17)),
@@ -158,7 +158,7 @@ pub fn lookup(file: &[u8], book: Record, name: &[u8], trail: &mut [u32]) -> Answ
     ensures blocks { λ r. ⌜ OnlyBlocks (now (file .entry)) book (now (name .entry)) (now (trail .entry)) r (now (trail .exit)) ⌝ }
 {
     let good_name = names::is_askable(name);
-    let good_record = book::fits(file, book);
+    let good_record = book::record_fits(file, book);
     if !good_name {
         return Answer::Refused(refusals::refuse(15));
     }

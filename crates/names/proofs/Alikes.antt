@@ -1,5 +1,4 @@
 -- Laws of `Alike`: how it is found, how it grows, and that what is alike decides nothing.
--- Assumes nothing.
 use mathlib.Core.Path.{_≡_, refl, sym, ap, ap₂, _∙_}
 use mathlib.Core.List.{List, _++_}
 use Prim.Native.Nat.{ℕ, _+_, _-_, _≤_, _<_}

@@ -1,5 +1,4 @@
 -- Examples of the order of names: `/A` and `/a` are equal, `/a` is below `/a.htm`, `/[` is below `/Z`.
--- Assumes nothing.
 use mathlib.Core.Path.{_≡_, refl}
 use mathlib.Core.Bool.{true}
 use mathlib.Core.List.{[], _∷_}

@@ -1,5 +1,4 @@
 -- The laws of comparisons: seen through a function, of numbers, one behind another, of lists. An order that is put together from these has its laws in a line.
--- Assumes nothing.
 use mathlib.Core.Path.{_≡_, refl, sym, ap₂, _∙_}
 use mathlib.Core.Bool.{false≢true}
 use mathlib.Core.List.{List, [], _∷_, _++_}

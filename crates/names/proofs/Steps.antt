@@ -1,5 +1,4 @@
 -- What one turn of a comparison finds: the two names from index i on.
--- Assumes nothing.
 use mathlib.Core.Path.{_≡_}
 use mathlib.Core.List.{List}
 use Prim.Native.Nat.{ℕ, _+_, _≤_, _<_}

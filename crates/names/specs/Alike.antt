@@ -1,5 +1,4 @@
 -- The same bytes in two names, in each at a place of its own. A means of the code; nobody has to believe it.
--- Assumes nothing.
 use Prim.Native.Nat.{ℕ, _+_, _-_, _≤_}
 use mathlib.Core.Path.{_≡_}
 use mathlib.Core.List.{List}

@@ -1,5 +1,4 @@
 -- The order of names in a directory (FORMAT, Names).
--- Assumes nothing.
 use Prim.Native.Nat.{ℕ, _+_}
 use mathlib.Core.Bool.{Bool, cond, _&&_}
 use mathlib.Core.List.{List}

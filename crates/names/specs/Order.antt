@@ -1,6 +1,5 @@
 -- A three-way comparison, the laws that hold of an order, and ways to put a comparison together from others.
 -- Everything above this crate uses of the order of names only its `OrderLaws`: to exchange the order, prove them of the new comparison.
--- Assumes nothing.
 use mathlib.Core.Path.{_≡_}
 use mathlib.Core.Bool.{Bool, true, false, cond}
 use mathlib.Core.List.{List, [], _∷_}

@@ -55,7 +55,7 @@ fn eight(s: &[u8], i: usize) -> u64
 }
 
 // Up to where in a its bytes from `from` on are those of b from `at` on, looked at by eights and no further than `end`.
-fn run8(a: &[u8], from: usize, b: &[u8], at: usize, end: usize) -> usize
+fn same_by_eights(a: &[u8], from: usize, b: &[u8], at: usize, end: usize) -> usize
     requires { ⌜ (from ≤ end) × (end ≤ length (now a)) × (at + (end - from) ≤ length (now b)) ⌝ }
     ensures { λ r. ⌜ Reached (now (a .entry)) (now (b .entry)) from at end r ⌝ }
 {
@@ -72,7 +72,7 @@ fn run8(a: &[u8], from: usize, b: &[u8], at: usize, end: usize) -> usize
 }
 
 // The same to the byte. The first is looked at alone: where it differs, eight cost more than they save.
-fn run(a: &[u8], from: usize, b: &[u8], at: usize, end: usize) -> usize
+fn same_up_to(a: &[u8], from: usize, b: &[u8], at: usize, end: usize) -> usize
     requires { ⌜ (from ≤ end) × (end ≤ length (now a)) × (at + (end - from) ≤ length (now b)) ⌝ }
     ensures { λ r. ⌜ Reached (now (a .entry)) (now (b .entry)) from at end r ⌝ }
 {
@@ -81,7 +81,7 @@ fn run(a: &[u8], from: usize, b: &[u8], at: usize, end: usize) -> usize
             return from;
         }
     }
-    let mut j = run8(a, from, b, at, end);
+    let mut j = same_by_eights(a, from, b, at, end);
     let mut k = at + (j - from);
     while j < end {
         if a[j] != b[k] {
@@ -108,7 +108,7 @@ pub fn compare(a: &[u8], b: &[u8]) -> Order
     let end = shorter(a, b);
     let mut i: usize = 0;
     loop {
-        i = run(a, i, b, i, end);
+        i = same_up_to(a, i, b, i, end);
         if end <= i {
             if i < a.len() {
                 return Order::Greater;

@@ -1,5 +1,4 @@
 -- Own bytes are told exactly where a step gives an entry.
--- Assumes nothing.
 use mathlib.Core.Path.{_≡_, refl, ap}
 use mathlib.Core.Logic.{_↔_}
 use mathlib.Core.List.{List}

@@ -1,5 +1,4 @@
 -- What the C functions of the searches without a trail promise, from what was replied.
--- Assumes nothing.
 use mathlib.Core.Path.{_≡_, refl, ap, _∙_}
 use mathlib.Core.List.{List}
 use Prim.Native.Nat.{ℕ, _≤_}

@@ -1,5 +1,4 @@
 -- What opening has established of a book that it accepts: `opened-book`.
--- Assumes nothing.
 use mathlib.Core.Path.{_≡_, refl, subst, ap}
 use mathlib.Core.Bool.{Bool, true, false, cond}
 use mathlib.Core.List.{List}
@@ -12,11 +11,11 @@ use Rattle.header.specs.Header.{headerOf}
 use Rattle.header.specs.declared.Record.{Record}
 use Rattle.header.specs.declared.CheckedHeader.{CheckedHeader}
 use Rattle.header.specs.declared.CheckedHeader.the-variants.{Good}
-use Rattle.header.proofs.Accepted.{accepted}
+use Rattle.header.proofs.Accepted.{header-accepted}
 use Rattle.tree.specs.Chain.{chainOk}
 use Rattle.tree.specs.Tree.{treeOk}
-use Rattle.tree.specs.Demand.{GoodDirectory}
-use Rattle.book.specs.Book.{directoryOf, shapeOf, bookFits}
+use Rattle.tree.specs.Exact.{GoodDirectory}
+use Rattle.book.specs.Book.{directoryOf, shapeOf, recordFits}
 use Rattle.book.proofs.Laws.{fits-made}
 use Rattle.opening.specs.Opened.{chunksThen, linkedBook, withHeader, opened, chunkThen}
 use Rattle.opening.specs.declared.Opened.{Opened}
@@ -62,11 +61,11 @@ linked-passed s b r e = go (chainOk (directoryOf s b) (shapeOf b)) (treeOk (dire
 pub record OpenedBook (s : List ℕ) (r : Record) : Type 0 where
   pub head : headerOf s ≡ Good r
   pub directory : GoodDirectory (directoryOf s r) (shapeOf r)
-  pub fits : bookFits s r ≡ true
+  pub fits : recordFits s r ≡ true
 
-pub head-fits : (s : List ℕ) (r : Record) → headerOf s ≡ Good r → bookFits s r ≡ true
+pub head-fits : (s : List ℕ) (r : Record) → headerOf s ≡ Good r → recordFits s r ≡ true
 head-fits s r e =
-    let a = accepted s r e in
+    let a = header-accepted s r e in
     fits-made s r
     (record {
       dense = a .density;
@@ -89,7 +88,7 @@ opened-book s r e = go (headerOf s) refl e
         (record {
           head = q;
           directory = record {
-            chunks = chunks-good s b (record { few = accepted s b q .count-high; good = λ k h. c .0 k (omega arith) (omega arith) });
+            chunks = chunks-good s b (record { few = header-accepted s b q .count-high; good = λ k h. c .0 k (omega arith) (omega arith) });
             chain-passes = l .0;
             tree-passes = l .1;
           };

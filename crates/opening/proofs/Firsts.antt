@@ -1,5 +1,4 @@
 -- The first and the last entry of a good chunk: they are there, lie inside its bytes, and have its first and its last name.
--- Assumes nothing.
 use mathlib.Core.Path.{_≡_, refl, sym, ap, subst}
 use mathlib.Core.Bool.{Bool, true}
 use mathlib.Core.List.{List, [], _∷_}
@@ -10,8 +9,8 @@ use Rattle.entries.specs.Entry.{nameOf}
 use Rattle.entries.specs.declared.Limits.{Limits}
 use Rattle.entries.specs.declared.Place.{Place}
 use Rattle.entries.proofs.Laws.{item-inside}
-use Rattle.chunk.specs.Chunk.{Entry, headOf, countOf, tailOf, parsed, entriesIn, isKind, kindOf}
-use Rattle.chunk.proofs.Accepted.{accepted, entries-count}
+use Rattle.chunk.specs.Chunk.{Entry, firstPlace, entryCount, tailLength, parsed, entriesIn, isKind, kindOf}
+use Rattle.chunk.proofs.Accepted.{chunk-accepted, entries-count}
 use Rattle.seek.specs.Seek.{Sought, absent, found, nth, nameIn, final, soughtOf, nthIn, firstIn, lastIn}
 use Rattle.seek.specs.declared.Hit.{Hit}
 use Rattle.seek.specs.declared.Hit.the-variants.{At, Nothing}
@@ -60,8 +59,8 @@ module _ (limits : Limits) (k : Kind) (s : List ℕ) (h : isKind k (parsed limit
   some : 0 < length es
   unfolding es
   some =
-      let g = accepted limits k s h in
-      let n = entries-count limits k s (4096 - tailOf s) (countOf s) (headOf k) (entriesIn (parsed limits s)) (g .entries) in
+      let g = chunk-accepted limits k s h in
+      let n = entries-count limits k s (4096 - tailLength s) (entryCount s) (firstPlace k) (entriesIn (parsed limits s)) (g .entries) in
       let c = g .some in
       omega arith
 
@@ -83,7 +82,7 @@ module _ (limits : Limits) (k : Kind) (s : List ℕ) (h : isKind k (parsed limit
   first-hit e q = record { inside = nth-inside limits k s 0 e (sym q); named = ap nameIn (first-is (At e) q) }
 
   pub last-hit : (e : Place) → At e ≡ lastIn limits k s → Hits s e (nameIn (final absent (entriesIn (parsed limits s))))
-  last-hit e q = record { inside = nth-inside limits k s (countOf s - 1) e (sym q); named = ap nameIn (last-is (At e) q) }
+  last-hit e q = record { inside = nth-inside limits k s (entryCount s - 1) e (sym q); named = ap nameIn (last-is (At e) q) }
 
 -- ---- the first entry of a chunk of a good book
 

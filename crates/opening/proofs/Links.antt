@@ -1,5 +1,4 @@
 -- Chain and tree as the code checks them are chain and tree as they are defined.
--- Assumes nothing.
 use mathlib.Core.Path.{_≡_, refl, sym, ap, _∙_}
 use mathlib.Core.Bool.{cond}
 use mathlib.Core.List.{List}

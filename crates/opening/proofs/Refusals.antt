@@ -1,5 +1,4 @@
 -- Each refusal of opening bears a number of the table, and the place that belongs to it: `refusal-told`.
--- Assumes nothing.
 use mathlib.Core.Path.{_≡_, refl, sym, ap, subst, _∙_}
 use mathlib.Core.Bool.{Bool, true, false, cond}
 use mathlib.Core.List.{List, []}
@@ -15,7 +14,7 @@ use Rattle.entries.specs.declared.Limits.{Limits}
 use Rattle.entries.specs.declared.Kind.{Kind}
 use Rattle.entries.specs.declared.Kind.the-variants.{Listing, Index}
 use Rattle.entries.specs.Rising.{rising}
-use Rattle.chunk.specs.Chunk.{Entries, broken, all, Parsed, bad, tagOf, made, entriesAt, quick, headOf, countOf, tailOf, spacingOf, framed, judged, parsedAs, parsed, entryName, listing, index, isGood}
+use Rattle.chunk.specs.Chunk.{Entries, broken, all, Parsed, bad, tagOf, parsedWith, entriesAt, quick, firstPlace, entryCount, tailLength, spacingOf, framed, checkedEntries, parsedAs, parsed, entryName, listing, index, isGood}
 use Rattle.header.specs.Header.{headerOf}
 use Rattle.header.specs.declared.Record.{Record}
 use Rattle.header.specs.declared.CheckedHeader.{CheckedHeader}
@@ -36,16 +35,16 @@ InTable (bad n) = (8 ≤ n) × (n ≤ 12)
 InTable (listing prev next es) = Unit {0}
 InTable (index es) = Unit {0}
 
-made-table : (k : Kind) (s : List ℕ) (es : List _) → InTable (made k s es)
+made-table : (k : Kind) (s : List ℕ) (es : List _) → InTable (parsedWith k s es)
 made-table Listing s es = tt
 made-table Index s es = tt
 
-judged-table : (n : ℕ) (k : Kind) (s : List ℕ) (r : Entries) → InTable (judged n k s r)
-unfolding judged
+judged-table : (n : ℕ) (k : Kind) (s : List ℕ) (r : Entries) → InTable (checkedEntries n k s r)
+unfolding checkedEntries
 judged-table n k s broken = (omega arith, omega arith)
-judged-table n k s (all es) = go (rising entryName [] es) (quick s n (headOf k) 0 es)
+judged-table n k s (all es) = go (rising entryName [] es) (quick s n (firstPlace k) 0 es)
   where
-    go : (a b : Bool) → InTable (cond a (cond b (made k s es) (bad 11)) (bad 12))
+    go : (a b : Bool) → InTable (cond a (cond b (parsedWith k s es) (bad 11)) (bad 12))
     go true true = made-table k s es
     go true false = (omega arith, omega arith)
     go false b = (omega arith, omega arith)
@@ -54,8 +53,8 @@ as-table : (n : ℕ) (limits : Limits) (k : Kind) (s : List ℕ) → InTable (pa
 unfolding parsedAs
 as-table n limits k s = go (framed n k s)
   where
-    go : (t : Bool) → InTable (cond t (judged n k s (entriesAt limits k s (4096 - tailOf s) (countOf s) (headOf k))) (bad 9))
-    go true = judged-table n k s (entriesAt limits k s (4096 - tailOf s) (countOf s) (headOf k))
+    go : (t : Bool) → InTable (cond t (checkedEntries n k s (entriesAt limits k s (4096 - tailLength s) (entryCount s) (firstPlace k))) (bad 9))
+    go true = judged-table n k s (entriesAt limits k s (4096 - tailLength s) (entryCount s) (firstPlace k))
     go false = (omega arith, omega arith)
 
 fault-table : (limits : Limits) (s : List ℕ) → InTable (parsed limits s)

@@ -1,5 +1,4 @@
 -- A good chunk's kind is what its tag says, and a good listing chunk's links are those that stand in it.
--- Assumes nothing.
 use mathlib.Core.Path.{_≡_, refl, ap, _∙_}
 use mathlib.Core.Bool.{true, false}
 use mathlib.Core.List.{List}
@@ -7,7 +6,7 @@ use Prim.Native.Nat.{ℕ, _<_}
 use Rattle.fields.proofs.Tests.{never}
 use Rattle.entries.specs.declared.Kind.{Kind}
 use Rattle.entries.specs.declared.Kind.the-variants.{Listing, Index}
-use Rattle.chunk.specs.Chunk.{made, isKind, Entry, kindOf, previousLink, nextLink, entriesIn}
+use Rattle.chunk.specs.Chunk.{parsedWith, isKind, Entry, kindOf, previousLink, nextLink, entriesIn}
 use Rattle.chunk.proofs.Accepted.{good-made}
 use Rattle.header.specs.declared.Record.{Record}
 use Rattle.tree.specs.Shape.{isListing, isIndex, previousOf, nextOf, listingChunk, indexChunk}
@@ -15,12 +14,12 @@ use Rattle.tree.proofs.Chunks.{is-listing, is-index}
 use Rattle.book.specs.Book.{limitsOf, chunkBytes, directoryOf, shapeOf}
 use Rattle.opening.specs.Passes.{GoodBook}
 
-made-kind : (k : Kind) (s : List ℕ) (es : List Entry) → isKind k (made k s es) ≡ true
+made-kind : (k : Kind) (s : List ℕ) (es : List Entry) → isKind k (parsedWith k s es) ≡ true
 made-kind Listing s es = refl
 made-kind Index s es = refl
 
-made-links : (k : Kind) (s : List ℕ) (es : List Entry) → isListing (made k s es) ≡ true
-    → (previousOf (made k s es) ≡ previousLink s) × (nextOf (made k s es) ≡ nextLink s)
+made-links : (k : Kind) (s : List ℕ) (es : List Entry) → isListing (parsedWith k s es) ≡ true
+    → (previousOf (parsedWith k s es) ≡ previousLink s) × (nextOf (parsedWith k s es) ≡ nextLink s)
 made-links Listing s es h = (refl, refl)
 made-links Index s es h = never h
 
@@ -28,9 +27,9 @@ made-links Index s es h = never h
 
 module _ (s : List ℕ) (r : Record) (good : GoodBook s r) (c : ℕ) (l : c < r .count) where
   -- a chunk, where its tag is that of the kind k
-  tagged : (k : Kind) → kindOf (chunkBytes s r c) ≡ k → directoryOf s r c ≡ made k (chunkBytes s r c) (entriesIn (directoryOf s r c))
+  tagged : (k : Kind) → kindOf (chunkBytes s r c) ≡ k → directoryOf s r c ≡ parsedWith k (chunkBytes s r c) (entriesIn (directoryOf s r c))
   unfolding directoryOf
-  tagged k e = good-made (limitsOf s r) (chunkBytes s r c) (good .good c l) ∙ ap (λ (j : Kind). made j (chunkBytes s r c) (entriesIn (directoryOf s r c))) e
+  tagged k e = good-made (limitsOf s r) (chunkBytes s r c) (good .good c l) ∙ ap (λ (j : Kind). parsedWith j (chunkBytes s r c) (entriesIn (directoryOf s r c))) e
 
   pub kind-true : isKind (kindOf (chunkBytes s r c)) (directoryOf s r c) ≡ true
   kind-true =

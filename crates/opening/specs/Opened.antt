@@ -1,5 +1,4 @@
 -- Opening a book: the checks of the head, of each chunk, of the chain and of the tree, in this order (FORMAT RO1 to RO4).
--- Assumes nothing.
 use Prim.Native.Nat.{ℕ, zero, suc, _+_}
 use mathlib.Core.Bool.{cond}
 use mathlib.Core.List.{List}

@@ -1,5 +1,4 @@
 -- The passes of opening over a book, as the code makes them. They are means: `opened` says what opening answers, and proofs/ that these give it.
--- Assumes nothing.
 use Prim.Native.Nat.{ℕ, zero, suc, _+_, _≤_, _<_}
 use mathlib.Core.Path.{_≡_}
 use mathlib.Core.Bool.{true, cond, _&&_}
@@ -25,8 +24,8 @@ use Rattle.opening.specs.declared.Survey.{Survey}
 use Rattle.opening.specs.declared.Survey.the-variants.{Fault, Listings}
 use Rattle.opening.specs.declared.Link.{Link}
 use Rattle.opening.specs.declared.Link.the-variants.{Broken, Last, Next}
-use Rattle.opening.specs.declared.Child.{Child}
-use Rattle.opening.specs.declared.Child.the-variants.{Named, Other}
+use Rattle.opening.specs.declared.NamedChild.{NamedChild}
+use Rattle.opening.specs.declared.NamedChild.the-variants.{Named, Other}
 use Rattle.opening.specs.declared.Progress.{Progress}
 use Rattle.opening.specs.declared.Progress.the-variants.{Stopped, Going}
 
@@ -60,7 +59,7 @@ FirstHit s r c Nothing = ⊥
 FirstHit s r c (At e) = (e .start + e .len ≤ length (chunkBytes s r c)) × (nameOf (chunkBytes s r c) e ≡ firstName (directoryOf s r c))
 
 -- the walk's progress as a value of the code's
-abbrev pub progressOf : W.Progress → Progress
+abbrev pub progressOf : W.TreeProgress → Progress
 progressOf W.stopped = Stopped
 progressOf (W.going expected left) = Going expected left
 
@@ -69,7 +68,7 @@ abbrev pub leafOf : (ℕ → Parsed) → Shape → ℕ → ℕ → Progress
 leafOf D H c left = cond (listingChunk D H c) (Going (nextOf (D c)) left) Stopped
 
 -- the entry of index chunk c at a place: its child, which must have the entry's name for its first, and the place behind it
-unfoldable pub childAt : List ℕ → Record → ℕ → ℕ → Child
-childAt s r c at =
+unfoldable pub namedChild : List ℕ → Record → ℕ → ℕ → NamedChild
+namedChild s r c at =
     withItem (itemAt (limitsOf s r) Kind.Index (chunkBytes s r c) at) Other
     (λ e. cond (same (nameOf (chunkBytes s r c) e) (firstName (directoryOf s r (e .child)))) (Named (e .child) (e .next)) Other)

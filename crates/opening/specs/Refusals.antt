@@ -1,5 +1,4 @@
 -- What a refusal of opening says (FORMAT, Refusals; RO7).
--- Assumes nothing.
 use mathlib.Core.Path.{_≡_}
 use mathlib.Core.Bool.{true, false}
 use mathlib.Core.List.{List}

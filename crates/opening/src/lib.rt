@@ -7,10 +7,10 @@ ghost use Rattle.refusals.specs.Refusals.{noChunk};
 ghost use Rattle.names.specs.Names.{below};
 ghost use Rattle.tree.specs.Shape.{firstName, lastName, listingChunk, indexChunk};
 ghost use Rattle.tree.specs.Tree.{top};
-ghost use Rattle.tree.specs.Walk.{chainRun, walk, arrived, listings as listingsOf};
+ghost use Rattle.tree.specs.Walk.{chainRun, walkTree, arrived, listings as listingsOf};
 ghost use Rattle.book.specs.Book.{directoryOf, shapeOf};
 ghost use Rattle.opening.specs.Opened.{chunksThen, linkedBook, opened};
-ghost use Rattle.opening.specs.Passes.{GoodBook, surveyed, linkOf, FirstHit, leafOf, childAt, progressOf};
+ghost use Rattle.opening.specs.Passes.{GoodBook, surveyed, linkOf, FirstHit, leafOf, namedChild, progressOf};
 use chunk::Chunk;
 use entries::Item;
 use entries::Kind;
@@ -46,7 +46,7 @@ enum Progress {
 }
 
 // An entry of an index chunk: its child, which has the entry's name for its first, and the place behind the entry.
-enum Child {
+enum NamedChild {
     Named(u64, usize),
     Other,
 }
@@ -62,7 +62,7 @@ fn survey_chunks(file: &[u8], book: Record) -> Survey
     while c < total {
         let at = c;
         c += 1;
-        match book::met(file, book, at) {
+        match book::checked_chunk(file, book, at) {
             Chunk::Refused(n) => return Survey::Fault(n, at as u32),
             Chunk::Listing(_, _) => listings += 1,
             Chunk::Index => {}
@@ -221,27 +221,27 @@ fn leaf(file: &[u8], book: Record, c: u64, left: u64) -> Progress
 }
 
 // The entry of index chunk c at a place, with its child named as the entry says.
-fn child_at(file: &[u8], book: Record, c: u64, at: usize) -> Child
+fn named_child(file: &[u8], book: Record, c: u64, at: usize) -> NamedChild
     requires { ⌜ GoodBook (now file) book ⌝ }
-    ensures { λ r. ⌜ r ≡ childAt (now (file .entry)) book c at ⌝ }
+    ensures { λ r. ⌜ r ≡ namedChild (now (file .entry)) book c at ⌝ }
 {
     let bytes = book::chunk_bytes(file, book, c);
     let Item::Good(x) = entries::item_at(bytes, book::limits(file, book), Kind::Index, at) else {
-        return Child::Other;
+        return NamedChild::Other;
     };
     let start = x.start;
     let len = x.len;
     if is_named(file, book, x.child, &bytes[start..start + len]) {
-        Child::Named(x.child, x.next)
+        NamedChild::Named(x.child, x.next)
     } else {
-        Child::Other
+        NamedChild::Other
     }
 }
 
 // The walk over the tree under chunk c of a level, from left to right: the listing chunk `expected` must come next, and `left` index chunks are left.
 fn walk_tree(file: &[u8], book: Record, level: u64, c: u64, expected: u64, left: u64) -> Progress
     requires { ⌜ GoodBook (now file) book ⌝ }
-    ensures { λ r. ⌜ r ≡ progressOf (walk (directoryOf (now (file .entry)) book) (shapeOf book) level c expected left) ⌝ }
+    ensures { λ r. ⌜ r ≡ progressOf (walkTree (directoryOf (now (file .entry)) book) (shapeOf book) level c expected left) ⌝ }
 {
     if level == 0 {
         return Progress::Stopped;
@@ -263,7 +263,7 @@ fn walk_tree(file: &[u8], book: Record, level: u64, c: u64, expected: u64, left:
     let mut next = expected;
     let mut k = left - 1;
     while 0 < rest {
-        let Child::Named(child, behind) = child_at(file, book, c, at) else {
+        let NamedChild::Named(child, behind) = named_child(file, book, c, at) else {
             return Progress::Stopped;
         };
         let Progress::Going(e, l) = walk_tree(file, book, level - 1, child, next, k) else {
@@ -280,7 +280,7 @@ fn walk_tree(file: &[u8], book: Record, level: u64, c: u64, expected: u64, left:
 // Whether the tree is right, with so many index chunks in it.
 fn tree_right(file: &[u8], book: Record, indexes: u64) -> bool
     requires { ⌜ GoodBook (now file) book ⌝ }
-    ensures { λ r. ⌜ r ≡ arrived (walk (directoryOf (now (file .entry)) book) (shapeOf book) (book .depth) (top (shapeOf book)) (book .first) indexes) ⌝ }
+    ensures { λ r. ⌜ r ≡ arrived (walkTree (directoryOf (now (file .entry)) book) (shapeOf book) (book .depth) (top (shapeOf book)) (book .first) indexes) ⌝ }
 {
     match walk_tree(
         file,

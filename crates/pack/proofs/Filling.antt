@@ -1,5 +1,4 @@
 -- What one chunk takes of the entries from a cursor on: as a whole (`extent-is`), and entry by entry as a loop finds it (`fitted`, `full`).
--- Assumes nothing.
 use mathlib.Core.Path.{_≡_, refl, sym, ap, subst, _∙_}
 use mathlib.Core.Bool.{Bool, true, false, cond}
 use mathlib.Core.List.{List, [], _∷_}
@@ -13,7 +12,7 @@ use Rattle.entries.specs.declared.Place.{Place}
 use Rattle.entries.specs.declared.Item.{Item}
 use Rattle.entries.specs.declared.Item.the-variants.{Good}
 use Rattle.entries.specs.declared.Kind.{Kind}
-use Rattle.chunk.specs.Chunk.{headOf, quickCount}
+use Rattle.chunk.specs.Chunk.{firstPlace, quickCount}
 use Rattle.source.specs.Source.{itemFrom, endOf, rowsFrom}
 use Rattle.entries.proofs.Laws.{onItem}
 use Rattle.source.proofs.Rows.{row-of, run-none, run-spent, run-more}
@@ -59,7 +58,7 @@ extent-is k n c b at left (e ∷ es) = go (fits k n (c + 1) (b + rowSize k e)) (
     go false x = record { count = sym (add-zero c); bytes = sym (add-zero b); ends = refl; less = omega arith }
 
 -- what fits is small
-pub fits-small : (k : Kind) (n c b : ℕ) → fits k n c b ≡ true → headOf k + b + (2 * quickCount n c + 2) ≤ 4096
+pub fits-small : (k : Kind) (n c b : ℕ) → fits k n c b ≡ true → firstPlace k + b + (2 * quickCount n c + 2) ≤ 4096
 fits-small k n c b h = leb-true _ _ h
 
 -- ---- the entry that is next: c entries of b bytes are taken, and the cursor is at a place
@@ -68,8 +67,8 @@ pub fit-over : (k : Kind) (n c b : ℕ) (es : List Place) → 4096 < b → fitOf
 unfolding fitOf
 fit-over k n c b [] h = refl
 fit-over k n c b (e ∷ es) h =
-    let l : 4096 < headOf k + (b + rowSize k e) + (2 * quickCount n (c + 1) + 2) = omega arith in
-    rw (lt-leb (headOf k + (b + rowSize k e) + (2 * quickCount n (c + 1) + 2)) 4096 l)
+    let l : 4096 < firstPlace k + (b + rowSize k e) + (2 * quickCount n (c + 1) + 2) = omega arith in
+    rw (lt-leb (firstPlace k + (b + rowSize k e) + (2 * quickCount n (c + 1) + 2)) 4096 l)
 
 chosen : (t : Bool) (x e : Place) (y m : ℕ) → cond t (Entry x y) Full ≡ Entry e m → (t ≡ true) × (x ≡ e) × (y ≡ m)
 chosen true x e y m q = (refl, (cc), (cc))
@@ -112,7 +111,7 @@ module _ (content : ℕ) (s starts : List ℕ) (k : Kind) (n c b left at : ℕ) 
     pub here : item ≡ Good e
     pub bytes : m ≡ b + rowSize k e
     pub more : b < m
-    pub room : headOf k + m + (2 * quickCount n (c + 1) + 2) ≤ 4096
+    pub room : firstPlace k + m + (2 * quickCount n (c + 1) + 2) ≤ 4096
     pub inside : e .start + e .len ≤ length s
     pub turn : extentFrom k n (c + 1) m (e .next) (left - 1) (rows (left - 1) (e .next)) ≡ extentFrom k n c b at left (rows left at)
 

@@ -1,6 +1,5 @@
 -- Levels: one chunk after another as a loop finds them (`chunks-more`), what they hold (`chunks-given`, `chunks-children`), and the places of
 -- their first names (`starts-of`).
--- Assumes nothing.
 use mathlib.Core.Path.{_≡_, refl, sym, ap, ap₂, subst, _∙_}
 use mathlib.Core.List.{List, [], _∷_, _++_, map}
 use Prim.Native.Nat.{ℕ, zero, suc, _+_, _-_, _<_}
@@ -19,12 +18,12 @@ use Rattle.entries.specs.declared.Item.the-variants.{Good}
 use Rattle.entries.specs.declared.Kind.{Kind}
 use Rattle.entries.specs.declared.Kind.the-variants.{Listing, Index}
 use Rattle.entries.specs.Stored.{Stored, storedOf}
-use Rattle.source.specs.Source.{childAt, itemFrom, endOf, rowsFrom}
+use Rattle.source.specs.Source.{indexEntryFor, itemFrom, endOf, rowsFrom}
 use Rattle.source.specs.Input.{given}
 use Rattle.fields.proofs.Lists.{All, none, more, all-first, all-weaken, all-parts}
 use Rattle.source.proofs.Rows.{Row, run-spent, run-more, run-drop, rows-all}
 use Rattle.pack.specs.Groups.{fits, groups, taken}
-use Rattle.pack.specs.Levels.{entrySize, level, firstName, childrenOf}
+use Rattle.pack.specs.Levels.{entrySize, level, groupName, childrenOf}
 use Rattle.pack.specs.Fill.{rowSize, extentFrom}
 use Rattle.pack.specs.Starts.{chunksFrom, firstAt, nameFrom, Starts}
 use Rattle.pack.specs.declared.Extent.{Extent}
@@ -105,7 +104,7 @@ name-there s p h = go (nameAt s p) refl h
 
 children : (content : ℕ) (s front ps : List ℕ) (gs : List (List Stored)) → Starts s ps gs
     → map (storedOf s) (rowsFrom content s (front ++ ps) Index (length ps) (length front)) ≡ childrenOf (length front) gs
-unfolding childrenOf itemFrom childAt
+unfolding childrenOf itemFrom indexEntryFor
 children content s front [] [] Starts.none = ap (map (storedOf s)) (run-spent (itemFrom content s (front ++ []) Index) 0 (length front) (omega arith))
 children content s front (p ∷ ps) (g ∷ gs) (Starts.more e some rest) =
     let c = length front in
@@ -132,7 +131,7 @@ chunks-children content s front ps n gs h = chunks-level content s (front ++ ps)
 
 -- the first row of a chunk stands where its name does
 starts-all : (s : List ℕ) (gs : List (List Place)) → All (λ g. 0 < length g) gs → All (All (Row s)) gs → Starts s (map firstAt gs) (map (map (storedOf s)) gs)
-unfolding firstAt firstName nameFrom
+unfolding firstAt groupName nameFrom
 starts-all s [] none none = Starts.none
 starts-all s ([] ∷ gs) (more p ps) (more r rs) = absurd (omega arith)
 starts-all s ((e ∷ g) ∷ gs) (more p ps) (more r rs) =

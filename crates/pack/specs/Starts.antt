@@ -1,6 +1,5 @@
 -- The levels of a new directory as they stand in the input: the entries of a level are found by a cursor, and of each chunk its first entry's
 -- place is kept, for the level above.
--- Assumes nothing.
 use Prim.Native.Nat.{ℕ, _+_, _<_}
 use mathlib.Core.Path.{_≡_}
 use mathlib.Core.List.{List, [], _∷_}
@@ -12,7 +11,7 @@ use Rattle.entries.specs.declared.Kind.{Kind}
 use Rattle.entries.specs.Stored.{Stored}
 use Rattle.source.specs.Source.{rowsFrom}
 use Rattle.pack.specs.Groups.{fits, groups}
-use Rattle.pack.specs.Levels.{firstName}
+use Rattle.pack.specs.Levels.{groupName}
 use Rattle.pack.specs.Fill.{rowSize}
 
 -- the chunks of a level, from a cursor on
@@ -32,7 +31,7 @@ nameFrom s p = withNumber (nameAt s p) [] (λ len start. part s start len)
 pub data Starts (s : List ℕ) : List ℕ → List (List Stored) → Type 0 where
   none : Starts s [] []
   more : {p : ℕ} {ps : List ℕ} {g : List Stored} {gs : List (List Stored)}
-      → nameFrom s p ≡ firstName g → 0 < length (firstName g) → Starts s ps gs → Starts s (p ∷ ps) (g ∷ gs)
+      → nameFrom s p ≡ groupName g → 0 < length (groupName g) → Starts s ps gs → Starts s (p ∷ ps) (g ∷ gs)
 
 -- so it is for each level, where `starts` has the places of all chunks from number c on
 pub data AllStarts (s starts : List ℕ) : ℕ → List (List (List Stored)) → Type 0 where

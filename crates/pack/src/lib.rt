@@ -35,7 +35,7 @@ fn quick_words(count: usize, n: usize) -> usize
 }
 
 // Whether an entry behind `count` others fits a chunk, where all of them have `bytes` bytes.
-pub fn fits(kind: Kind, n: usize, count: usize, bytes: usize) -> bool
+pub fn fits_chunk(kind: Kind, n: usize, count: usize, bytes: usize) -> bool
     ensures { λ r. ⌜ r ≡ fitsIn kind n (count + 1) bytes ⌝ }
 {
     if 4096 < bytes {
@@ -87,7 +87,7 @@ pub fn next_fit(
         return Fit::Full;
     };
     let bytes = f.bytes + entry_size(kind, e);
-    if fits(kind, n, f.count, bytes) {
+    if fits_chunk(kind, n, f.count, bytes) {
         return Fit::Entry(e, bytes);
     }
     Fit::Full

@@ -1,5 +1,4 @@
 -- A refusal is its number and its place (FORMAT, Refusals; RO7).
--- Assumes nothing.
 use Prim.Native.Nat.{ℕ}
 use Rattle.refusals.specs.declared.Refusal.{Refusal}
 

@@ -1,5 +1,4 @@
 -- The chain of a new directory: its listing chunks in the order of their numbers, and it passes its check.
--- Assumes nothing.
 use mathlib.Core.Path.{_≡_, refl, sym, ap, subst, _∙_}
 use mathlib.Core.Bool.{true, false, not, _||_}
 use mathlib.Core.List.{List, [], _∷_, flatten}
@@ -11,7 +10,7 @@ use borrow.Author.Tests.{lt-ltb, le-ltb, eq-eqb, ne-eqb}
 use Rattle.refusals.specs.Refusals.{noChunk}
 use Rattle.names.specs.Names.{below}
 use Rattle.entries.specs.declared.Kind.the-variants.{Listing}
-use Rattle.chunk.specs.Chunk.{Parsed, headOf}
+use Rattle.chunk.specs.Chunk.{Parsed, firstPlace}
 use Rattle.tree.specs.Lists.{member, everyBelow}
 use Rattle.tree.specs.Shape as shape
 use Rattle.tree.specs.Shape.{Shape, isListing, lastName, listingChunk}
@@ -20,32 +19,32 @@ use Rattle.tree.proofs.Chunks.{is-listing}
 use Rattle.entries.specs.Rising.{rising}
 use Rattle.entries.specs.Stored.{Stored, storedName}
 use Rattle.fields.proofs.Lists.{All, more}
-use Rattle.pack.specs.Levels.{firstName}
-use Rattle.layout.specs.Layout.{prevOf, nextOf}
+use Rattle.pack.specs.Levels.{groupName}
+use Rattle.layout.specs.Layout.{newPrevious, newNext}
 use Rattle.roundtrip.proofs.Numbers.{numbers, in-numbers, all-members}
 use Rattle.roundtrip.proofs.Stand.{asLeaf, Stand, placed-first, placed-last, rising-first}
 
 -- ---- the numbers of the chunks before and behind
 
-next-is : (m c : ℕ) → c + 1 < m → nextOf m c ≡ c + 1
-unfolding nextOf
+next-is : (m c : ℕ) → c + 1 < m → newNext m c ≡ c + 1
+unfolding newNext
 next-is m c h = rw (lt-ltb (c + 1) m h)
 
-next-none : (m c : ℕ) → m ≤ c + 1 → nextOf m c ≡ noChunk
-unfolding nextOf
+next-none : (m c : ℕ) → m ≤ c + 1 → newNext m c ≡ noChunk
+unfolding newNext
 next-none m c h = rw (le-ltb (c + 1) m h)
 
-prev-first : prevOf 0 ≡ noChunk
-unfolding prevOf
+prev-first : newPrevious 0 ≡ noChunk
+unfolding newPrevious
 prev-first = refl
 
-prev-is : (c : ℕ) → prevOf (c + 1) ≡ c
-unfolding prevOf
+prev-is : (c : ℕ) → newPrevious (c + 1) ≡ c
+unfolding newPrevious
 prev-is c = let z : eqb (c + 1) 0 ≡ false = ne-eqb (c + 1) 0 (omega arith) in rw z (omega arith)
 
 module _ (D : ℕ → Parsed) (H : Shape) (m : ℕ) (room : m ≤ H .count) (small : m ≤ 4096) (end : H .last ≡ m - 1) where
   -- from chunk c on, over n chunks at most
-  run : (n p c : ℕ) (last : List ℕ) (g : List Stored) (gs : List (List Stored)) → suc (length gs) ≤ n → c + suc (length gs) ≡ m → prevOf c ≡ p
+  run : (n p c : ℕ) (last : List ℕ) (g : List Stored) (gs : List (List Stored)) → suc (length gs) ≤ n → c + suc (length gs) ≡ m → newPrevious c ≡ p
       → rising storedName last (flatten (g ∷ gs)) ≡ true → All (λ x. 0 < length x) (g ∷ gs) → Stand D (asLeaf m) c (g ∷ gs)
       → (chainFrom D n c ≡ numbers c (suc (length gs))) × (linked D H n p c ≡ true)
   unfolding chainFrom linked numbers flatten
@@ -60,8 +59,8 @@ module _ (D : ℕ → Parsed) (H : Shape) (m : ℕ) (room : m ≤ H .count) (sma
       let x : shape.nextOf (D c) ≡ c + 1 = ap shape.nextOf (s .0) ∙ next-is m c (omega arith) in
       let v : shape.previousOf (D c) ≡ p = ap shape.previousOf (s .0) ∙ q in
       let z : eqb (c + 1) noChunk ≡ false = ne-eqb (c + 1) noChunk (omega arith) in
-      let t : rising storedName (lastName (D c)) (flatten (h ∷ gs)) ≡ true = rw (s .0) (placed-last Listing (headOf Listing) last g (flatten (h ∷ gs)) a r) in
-      let y : shape.firstName (D (c + 1)) ≡ firstName h = rw (s .1 .0) (placed-first Listing (headOf Listing) h) in
+      let t : rising storedName (lastName (D c)) (flatten (h ∷ gs)) ≡ true = rw (s .0) (placed-last Listing (firstPlace Listing) last g (flatten (h ∷ gs)) a r) in
+      let y : shape.firstName (D (c + 1)) ≡ groupName h = rw (s .1 .0) (placed-first Listing (firstPlace Listing) h) in
       let b′ : below (lastName (D c)) (shape.firstName (D (c + 1))) ≡ true = rw y (rising-first (lastName (D c)) h (flatten gs) b t) in
       let w = run n c (c + 1) (lastName (D c)) h gs (omega arith) (omega arith) (prev-is c) t (more b as′) (s .1) in
       (rw (x, z, w .0), rw (k, v, eq-eqb p p refl, x, z, b′, w .1))

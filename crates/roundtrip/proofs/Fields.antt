@@ -1,5 +1,4 @@
 -- The headers of a new book, read back: each field holds the number that was written there.
--- Assumes nothing.
 use mathlib.Core.Path.{_≡_, refl, ap, _∙_}
 use mathlib.Core.Bool.{true}
 use mathlib.Core.List.{List, _++_, flatten}

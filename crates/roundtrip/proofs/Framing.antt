@@ -1,6 +1,5 @@
 -- The headers of a new book are read back: they pass the checks of a head, give the record that the inputs fix, and each chunk stands where
 -- the record says.
--- Assumes nothing.
 use Prim.Native.Nat.{ℕ, _+_, _-_, _*_, _≤_, _<_, _^_}
 use native.Mathlib.Omega.{arith}
 use native.Mathlib.Decide.{ℕ-discrete}
@@ -26,7 +25,7 @@ use Rattle.entries.specs.Stored.{Stored}
 use Rattle.fields.proofs.Lists.{All}
 use Rattle.compose.specs.NewChunk.{newChunk}
 use Rattle.layout.specs.Headers.{headLength}
-use Rattle.layout.specs.Layout.{Layout, chunkCount, depthOf, rootOf, smallEnough, prevOf, nextOf, chunkList, headBytes}
+use Rattle.layout.specs.Layout.{Layout, chunkCount, layoutDepth, newRoot, smallEnough, newPrevious, newNext, chunkList, headBytes}
 use Rattle.roundtrip.specs.RoundTrip.{recordFor}
 use Rattle.layout.proofs.Small.{small-told}
 use Rattle.layout.proofs.Standing.{list-leaf, list-node}
@@ -41,8 +40,8 @@ flat-none [] h = refl
 flat-none (g ∷ gs) h = absurd (omega arith)
 
 -- the root has room in its field
-root-small : (p n : ℕ) → n ≤ 4096 → rootOf p n < 2 ^ 32
-unfolding rootOf
+root-small : (p n : ℕ) → n ≤ 4096 → newRoot p n < 2 ^ 32
+unfolding newRoot
 root-small p n h =
     elim (ℕ-discrete p 1) [
       | yes e ↦ rw (eq-eqb p 1 e) (omega arith)
@@ -51,7 +50,7 @@ root-small p n h =
 
 -- headers that hold the numbers of a new book give its record
 record-is : (density time language : ℕ) (l : Layout) (h d : List ℕ) → FileRead time language (chunkCount l) h
-    → DirectoryRead density (depthOf l) (rootOf (depthOf l) (chunkCount l)) (length (l .leaves) - 1) (chunkCount l) d
+    → DirectoryRead density (layoutDepth l) (newRoot (layoutDepth l) (chunkCount l)) (length (l .leaves) - 1) (chunkCount l) d
     → recordFrom (fileFieldsOf h) (directoryFieldsOf d) ≡ recordFor density time language l
 unfolding recordFor
 record-is density time language l h d f r =
@@ -72,7 +71,7 @@ module _ (density time language : ℕ) (l : Layout) (content : List ℕ) (dense 
   n = chunkCount l
 
   abbrev p : ℕ
-  p = depthOf l
+  p = layoutDepth l
 
   abbrev e : ℕ
   e = length (l .leaves) - 1
@@ -94,10 +93,10 @@ module _ (density time language : ℕ) (l : Layout) (content : List ℕ) (dense 
   section : le 8 (sectionIn file f) 0x08 ≡ headLength n + length content
   section = rw (head .section, part-inside file 0x60 24 (omega (arith, long)), section-part density time language l content) (section-read (headLength n + length content) (omega (arith, few)))
 
-  directory : DirectoryRead density p (rootOf p n) e n (directoryIn file f)
+  directory : DirectoryRead density p (newRoot p n) e n (directoryIn file f)
   directory =
       rw (head .directory, part-inside file 0x78 84 (omega (arith, long)), directory-part density time language l content)
-      (directory-read language density p (rootOf p n) e n (omega arith) (omega (arith, few)) (root-small p n (few .0)) (omega (arith, few)) (omega (arith, few)))
+      (directory-read language density p (newRoot p n) e n (omega arith) (omega (arith, few)) (root-small p n (few .0)) (omega (arith, few)) (omega (arith, few)))
 
   -- ---- the checks
 
@@ -131,10 +130,10 @@ module _ (density time language : ℕ) (l : Layout) (content : List ℕ) (dense 
 
   pub leaf-read : (c : ℕ) → c < length (l .leaves)
       → chunkBytes file (recordFor density time language l) c
-      ≡ newChunk Listing (spacingOf density) (prevOf c) (nextOf (length (l .leaves)) c) (getD (l .leaves) c [])
+      ≡ newChunk Listing (spacingOf density) (newPrevious c) (newNext (length (l .leaves)) c) (getD (l .leaves) c [])
   leaf-read c h = chunk-is c (omega arith) ∙ list-leaf (spacingOf density) l c h
 
   pub node-read : (i : ℕ) → i < length (flatten (l .levels))
       → chunkBytes file (recordFor density time language l) (length (l .leaves) + i)
-      ≡ newChunk Index (spacingOf density) (prevOf (length (l .leaves) + i)) (nextOf (length (l .leaves)) (length (l .leaves) + i)) (getD (flatten (l .levels)) i [])
+      ≡ newChunk Index (spacingOf density) (newPrevious (length (l .leaves) + i)) (newNext (length (l .leaves)) (length (l .leaves) + i)) (getD (flatten (l .levels)) i [])
   node-read i h = chunk-is (length (l .leaves) + i) (omega arith) ∙ list-node (spacingOf density) l i h

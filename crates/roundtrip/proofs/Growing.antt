@@ -1,6 +1,5 @@
 -- The tree of a new directory, level by level: what holds of a level's chunks holds of those of the level above, up to the level with a single
 -- chunk. A level is written `suc l`: listing chunks have level 1.
--- Assumes nothing.
 use mathlib.Core.Path.{_≡_, refl, sym, ap, ap₂, subst, _∙_}
 use mathlib.Core.Logic.{inl, inr}
 use mathlib.Core.Bool.{true}
@@ -14,7 +13,7 @@ use borrow.Author.Tests.{ltb-true, ltb-false}
 use Rattle.fields.specs.Same.{same}
 use Rattle.fields.proofs.Same.{same-self}
 use Rattle.entries.specs.declared.Kind.the-variants.{Index}
-use Rattle.chunk.specs.Chunk.{Parsed, entriesIn, headOf}
+use Rattle.chunk.specs.Chunk.{Parsed, entriesIn, firstPlace}
 use Rattle.tree.specs.Shape as shape
 use Rattle.tree.specs.Lists.{In, allOf}
 use Rattle.tree.specs.Shape.{Shape, isIndex, indexChunk}
@@ -25,7 +24,7 @@ use Rattle.tree.proofs.Shaped.{childOk}
 use Rattle.entries.specs.Stored.{Stored}
 use Rattle.fields.proofs.Lists.{All, none, more, all-parts, flat-append}
 use Rattle.pack.specs.Groups.{fits}
-use Rattle.pack.specs.Levels.{entrySize, firstName, childrenOf, levelsAbove}
+use Rattle.pack.specs.Levels.{entrySize, groupName, childrenOf, levelsAbove}
 use Rattle.pack.proofs.Groups.{groups-flat, groups-some}
 use Rattle.pack.proofs.Above.{upper, above-more, above-none, length-children}
 use Rattle.compose.proofs.Placed.{placedFrom}
@@ -51,14 +50,14 @@ module _ (f : ℕ → List ℕ) where
   unfolding flatMap numbers flatten
   flat-stand D c [] s = refl
   flat-stand D c (g ∷ gs) s =
-      ap₂ (λ (a b : List ℕ). a ++ b) (ap (λ (x : Parsed). flatMap (λ e. f (e .child)) (entriesIn x)) (s .0) ∙ flat-placed (headOf Index) g) (flat-stand D (c + 1) gs (s .1))
+      ap₂ (λ (a b : List ℕ). a ++ b) (ap (λ (x : Parsed). flatMap (λ e. f (e .child)) (entriesIn x)) (s .0) ∙ flat-placed (firstPlace Index) g) (flat-stand D (c + 1) gs (s .1))
       ∙ sym (flat-append (λ e. f (e .child)) g (flatten gs))
 
 module _ (D : ℕ → Parsed) (H : Shape) (m : ℕ) where
   -- the chunks from number c on have the level `suc l`, and the first names of these lists
   abbrev pub Named : ℕ → ℕ → List (List Stored) → Type 0
   Named l c [] = Unit {0}
-  Named l c (g ∷ gs) = (shape.firstName (D c) ≡ firstName g) × (shaped D H (suc l) c ≡ true) × Named l (c + 1) gs
+  Named l c (g ∷ gs) = (shape.firstName (D c) ≡ groupName g) × (shaped D H (suc l) c ≡ true) × Named l (c + 1) gs
 
   -- a level, whose chunks are numbered from c on: under them are the m listing chunks in order, and at or under them all index chunks so far
   pub record Level (l c : ℕ) (gs : List (List Stored)) : Type 0 where
@@ -89,8 +88,8 @@ module _ (D : ℕ → Parsed) (H : Shape) (m : ℕ) where
   named-up l c [] b none s = tt
   named-up l c (g ∷ gs) b (more p ps) s =
       let k : indexChunk D H c ≡ true = is-index D H c (omega arith) ∙ ap isIndex (s .0) in
-      let a : allOf (childOk D H l) (entriesIn (D c)) ≡ true = rw (s .0) (children-pass l (headOf Index) g p) in
-      (rw (s .0) (placed-first Index (headOf Index) g), rw (k, a), named-up l (c + 1) gs (omega arith) ps (s .1))
+      let a : allOf (childOk D H l) (entriesIn (D c)) ≡ true = rw (s .0) (children-pass l (firstPlace Index) g p) in
+      (rw (s .0) (placed-first Index (firstPlace Index) g), rw (k, a), named-up l (c + 1) gs (omega arith) ps (s .1))
 
   module _ (l c : ℕ) (gs up : List (List Stored)) (whole : flatten up ≡ childrenOf c gs) (s : Stand D asNode (c + length gs) up) where
     abbrev above : List ℕ

@@ -1,5 +1,4 @@
 -- A directory that means a new layout passes the checks of chain and tree, and its chain is its listing chunks in order.
--- Assumes nothing.
 use Prim.Native.Nat.{ℕ, _+_, _-_, _≤_, _<_}
 use mathlib.Core.Path.{_≡_, refl, sym, ap, subst, _∙_}
 use mathlib.Core.Bool.{true, false}

@@ -1,5 +1,4 @@
 -- A new book by its record: every chunk means the entries that its layout gives it.
--- Assumes nothing.
 use mathlib.Core.Path.{_≡_, refl, ap, ap₂, _∙_}
 use mathlib.Core.Bool.{Bool, true, false}
 use mathlib.Core.List.{List, [], flatten}
@@ -22,7 +21,7 @@ use Rattle.source.proofs.Kept.{Kept}
 use Rattle.compose.proofs.Placed.{Allowed}
 use Rattle.compose.proofs.Reading.{parsed-new}
 use Rattle.layout.specs.Headers.{headLength}
-use Rattle.layout.specs.Layout.{Layout, layoutOver, chunkCount, smallEnough, prevOf, nextOf, chunkList}
+use Rattle.layout.specs.Layout.{Layout, layoutOver, chunkCount, smallEnough, newPrevious, newNext, chunkList}
 use Rattle.roundtrip.specs.RoundTrip.{recordFor, newBook}
 use Rattle.roundtrip.proofs.Meaning.{Means}
 use Rattle.layout.proofs.Small.{small-told}
@@ -36,19 +35,19 @@ use Rattle.roundtrip.proofs.Framing.{header-read, leaf-read, node-read}
 
 -- ---- the numbers of the chunks before and behind have room in their fields
 
-prev-small : (c : ℕ) → c ≤ 4096 → prevOf c < 2 ^ 32
-unfolding prevOf
+prev-small : (c : ℕ) → c ≤ 4096 → newPrevious c < 2 ^ 32
+unfolding newPrevious
 prev-small c h =
     elim (ℕ-discrete c 0) [
       | yes e ↦ rw (eq-eqb c 0 e) (omega arith)
       | no e ↦ rw (ne-eqb c 0 e) (omega arith)
     ]
 
-next-small : (m c : ℕ) → m ≤ 4096 → nextOf m c < 2 ^ 32
-unfolding nextOf
+next-small : (m c : ℕ) → m ≤ 4096 → newNext m c < 2 ^ 32
+unfolding newNext
 next-small m c h = go (ltb (c + 1) m) refl
   where
-    go : (t : Bool) → ltb (c + 1) m ≡ t → nextOf m c < 2 ^ 32
+    go : (t : Bool) → ltb (c + 1) m ≡ t → newNext m c < 2 ^ 32
     go true e = let b = ltb-true (c + 1) m e in rw e (omega arith)
     go false e = rw e (omega arith)
 
@@ -129,7 +128,7 @@ module _ (density time language : ℕ) (es : List Stored) (gs : List (List Store
             let x = getD gs c [] in
             let f = all-at [] gs c (cut .fit) h in
             ap₂ parsed limits-are (leaf-read density time language l content (cut .dense) t g (cut .small) small some one index-some whole c h)
-            ∙ parsed-new limits Listing (prevOf c) (nextOf m c) x (prev-small c (omega (arith, few))) (next-small m c (omega (arith, few))) (f .some) (fit-room Listing n x f)
+            ∙ parsed-new limits Listing (newPrevious c) (newNext m c) x (prev-small c (omega (arith, few))) (next-small m c (omega (arith, few))) (f .some) (fit-room Listing n x f)
             (all-at [] gs c (groups-rise [] gs (ordered .named) (ordered .order)) h)
             (all-weaken (kept-allowed limits) (all-at [] gs c (cut-kept density (length content) es gs cut) h));
         node = λ i h.
@@ -137,6 +136,6 @@ module _ (density time language : ℕ) (es : List Stored) (gs : List (List Store
             let f = all-at [] (flatten (l .levels)) i (nodes-fit density (length content) es gs cut) h in
             let o = all-at [] (flatten (l .levels)) i nodes-sound h in
             ap₂ parsed limits-are (node-read density time language l content (cut .dense) t g (cut .small) small some one index-some whole i h)
-            ∙ parsed-new limits Index (prevOf (m + i)) (nextOf m (m + i)) x (prev-small (m + i) (omega (arith, few))) (next-small m (m + i) (omega (arith, few))) (f .some) (fit-room Index n x f)
+            ∙ parsed-new limits Index (newPrevious (m + i)) (newNext m (m + i)) x (prev-small (m + i) (omega (arith, few))) (next-small m (m + i) (omega (arith, few))) (f .some) (fit-room Index n x f)
             (o .order) (all-weaken (child-allowed limits few) (o .entries));
       }

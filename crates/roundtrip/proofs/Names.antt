@@ -1,5 +1,4 @@
 -- The names of a listing chunk's entries stand in the chunk, where the entries say.
--- Assumes nothing.
 use mathlib.Core.Path.{_≡_, sym, ap, subst}
 use mathlib.Core.List.{List}
 use Prim.Native.Nat.{ℕ, zero, suc, _+_, _≤_}

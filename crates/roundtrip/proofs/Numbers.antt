@@ -1,5 +1,4 @@
 -- Numbers in a row, and members of lists of numbers.
--- Assumes nothing.
 use mathlib.Core.Path.{_≡_}
 use mathlib.Core.Logic.{inl, inr}
 use mathlib.Core.Bool.{Bool, true, not, _||_}

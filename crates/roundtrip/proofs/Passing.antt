@@ -1,5 +1,4 @@
 -- Headers that hold the numbers of a new book pass the checks of a head.
--- Assumes nothing.
 use mathlib.Core.Path.{_≡_, refl}
 use mathlib.Core.Bool.{true, cond, not, _&&_, _||_}
 use mathlib.Core.List.{List}
@@ -12,7 +11,7 @@ use Rattle.refusals.specs.Refusals.{noChunk}
 use Rattle.file_header.specs.FileHeader.{versionRight, lengthsRight, placesRight, contentRight, sectionsRight}
 use Rattle.directory_header.specs.DirectoryHeader.{boundsRight, endsRight, rootRight, directoryRight, directoryFieldsOf}
 use Rattle.layout.specs.Headers.{headLength}
-use Rattle.layout.specs.Layout.{rootOf}
+use Rattle.layout.specs.Layout.{newRoot}
 use Rattle.roundtrip.proofs.Fields.{FileRead, DirectoryRead}
 
 module _ (t g n : ℕ) (h : List ℕ) (f : FileRead t g n h) where
@@ -30,15 +29,15 @@ module _ (t g n : ℕ) (h : List ℕ) (f : FileRead t g n h) where
 -- ---- the directory's numbers
 
 root-pass : (p n : ℕ) → (p ≡ 1 → n ≡ 1) → (¬ (p ≡ 1) → 1 < n)
-    → cond (eqb p 1) (eqb n 1 && (eqb (rootOf p n) noChunk || eqb (rootOf p n) 0)) (not (eqb n 1) && ltb (rootOf p n) n) ≡ true
-unfolding rootOf
+    → cond (eqb p 1) (eqb n 1 && (eqb (newRoot p n) noChunk || eqb (newRoot p n) 0)) (not (eqb n 1) && ltb (newRoot p n) n) ≡ true
+unfolding newRoot
 root-pass p n one more =
     elim (ℕ-discrete p 1) [
       | yes h ↦ rw (eq-eqb p 1 h, eq-eqb n 1 (one h))
       | no h ↦ let l : 1 < n = more h in rw (ne-eqb p 1 h, ne-eqb n 1 (λ e. omega arith), lt-ltb (n - 1) n (omega arith))
     ]
 
-pub directory-pass : (y p e n : ℕ) (d : List ℕ) → DirectoryRead y p (rootOf p n) e n d → y ≤ 7 → 1 ≤ p → p ≤ 5 → n ≤ 4096 → e < n
+pub directory-pass : (y p e n : ℕ) (d : List ℕ) → DirectoryRead y p (newRoot p n) e n d → y ≤ 7 → 1 ≤ p → p ≤ 5 → n ≤ 4096 → e < n
     → (p ≡ 1 → n ≡ 1) → (¬ (p ≡ 1) → 1 < n) → directoryRight (directoryFieldsOf d) (84 + 4096 * n) ≡ true
 unfolding directoryRight boundsRight endsRight rootRight
 directory-pass y p e n d f a b c i j one more =

@@ -1,5 +1,4 @@
 -- The tree of a new directory from its lowest level to its root: where the levels between stand, it passes its check.
--- Assumes nothing.
 use mathlib.Core.Path.{_≡_, refl, sym, ap, subst, _∙_}
 use mathlib.Core.Bool.{true, not, _||_}
 use mathlib.Core.List.{List, [], _∷_, append-nil, flatMap}
@@ -11,7 +10,7 @@ use borrow.Author.Tests.{eqb-true}
 use Rattle.fields.specs.Same.{same}
 use Rattle.fields.proofs.Same.{same-self}
 use Rattle.entries.specs.declared.Kind.the-variants.{Listing}
-use Rattle.chunk.specs.Chunk.{Parsed, headOf}
+use Rattle.chunk.specs.Chunk.{Parsed, firstPlace}
 use Rattle.tree.specs.Lists.{In, member, everyBelow}
 use Rattle.tree.specs.Shape.{Shape, isListing, isIndex, listingChunk}
 use Rattle.tree.specs.Chain.{chain}
@@ -19,7 +18,7 @@ use Rattle.tree.specs.Tree.{top, leaves, indexChunks, shaped, treeOk}
 use Rattle.tree.proofs.Lists.{onTest}
 use Rattle.tree.proofs.Chunks.{is-listing}
 use Rattle.entries.specs.Stored.{Stored}
-use Rattle.layout.specs.Layout.{Layout, depthOf, chunkCount, rootOf}
+use Rattle.layout.specs.Layout.{Layout, layoutDepth, chunkCount, newRoot}
 use Rattle.roundtrip.proofs.Meaning.{shapeFor}
 use Rattle.roundtrip.proofs.Numbers.{numbers, all-members}
 use Rattle.roundtrip.proofs.Stand.{asLeaf, Stand, placed-first}
@@ -38,7 +37,7 @@ module _ (D : ℕ → Parsed) (H : Shape) (m : ℕ) where
   named-leaves c [] b s = tt
   named-leaves c (g ∷ gs) b s =
       let k : listingChunk D H c ≡ true = is-listing D H c (omega arith) ∙ ap isListing (s .0) in
-      (rw (s .0) (placed-first Listing (headOf Listing) g), k, named-leaves (c + 1) gs (omega arith) (s .1))
+      (rw (s .0) (placed-first Listing (firstPlace Listing) g), k, named-leaves (c + 1) gs (omega arith) (s .1))
 
 pub ground : (D : ℕ → Parsed) (H : Shape) (gs : List (List Stored)) → length gs ≤ H .count → Stand D (asLeaf (length gs)) 0 gs → Level D H (length gs) 0 0 gs
 unfolding leaves
@@ -64,9 +63,9 @@ module _ (D : ℕ → Parsed) (l : Layout) where
     listed : leaves D depth c ≡ numbers 0 m
     holds : (x : ℕ) → m ≤ x → x < chunkCount l → In x (indexChunks D depth c)
 
-  top-is : (c : ℕ) → c + 1 ≡ chunkCount l → (depthOf l ≡ 1 → c ≡ 0) → top H ≡ c
-  unfolding top rootOf
-  top-is c e z = onTest (eqb (depthOf l) 1) (λ t. rw t (sym (z (eqb-true (depthOf l) 1 t)))) (λ t. rw t (omega arith))
+  top-is : (c : ℕ) → c + 1 ≡ chunkCount l → (layoutDepth l ≡ 1 → c ≡ 0) → top H ≡ c
+  unfolding top newRoot
+  top-is c e z = onTest (eqb (layoutDepth l) 1) (λ t. rw t (sym (z (eqb-true (layoutDepth l) 1 t)))) (λ t. rw t (omega arith))
 
   module _ (t : Top D H m 0 0 (l .leaves) (l .levels)) where
     abbrev depth : ℕ
@@ -85,9 +84,9 @@ module _ (D : ℕ → Parsed) (l : Layout) where
     unfolding treeOk
     rooted q kinds =
         let e : top H ≡ t .number = top-is (t .number) (omega (arith, t .last)) (λ z. t .alone (omega arith)) in
-        let r : Rooted (depthOf l) (top H) = rw e (subst (λ (k : ℕ). Rooted k (t .number)) (omega arith) at-top) in
-        let s : same (leaves D (depthOf l) (top H)) (chain D H) ≡ true = rw (r .listed, q) (same-self (numbers 0 m)) in
-        let is = indexChunks D (depthOf l) (top H) in
+        let r : Rooted (layoutDepth l) (top H) = rw e (subst (λ (k : ℕ). Rooted k (t .number)) (omega arith) at-top) in
+        let s : same (leaves D (layoutDepth l) (top H)) (chain D H) ≡ true = rw (r .listed, q) (same-self (numbers 0 m)) in
+        let is = indexChunks D (layoutDepth l) (top H) in
         let a : everyBelow (chunkCount l) (λ c. not (isIndex (D c)) || member c is) ≡ true
         = all-members (chunkCount l) (λ c. isIndex (D c)) is (λ c h i. r .holds c (kinds c h i) h) in
         rw (r .shape, s, a)

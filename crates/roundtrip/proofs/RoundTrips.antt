@@ -1,6 +1,5 @@
 -- The round trip (`round-trip`): the head of a layout over entries that are cut so that they fit, with content of that length behind it, is a book
 -- with the record that inputs and layout fix, and its listing is those entries.
--- Assumes nothing.
 use mathlib.Core.Path.{_≡_, refl, sym, ap, ap₂, subst, _∙_}
 use mathlib.Core.Bool.{true}
 use mathlib.Core.List.{List, [], _∷_, _++_, map, map-append, flatten, flatMap}
@@ -13,8 +12,8 @@ use Rattle.fields.proofs.Parts.{part-inside, part-within}
 use Rattle.fields.proofs.Tests.{never}
 use Rattle.encint.specs.Encint.{encoded}
 use Rattle.entries.specs.declared.Kind.the-variants.{Listing}
-use Rattle.chunk.specs.Chunk.{Entry, Parsed, bad, listing, index, isGood, isKind, entriesIn, spacingOf, headOf}
-use Rattle.chunk.proofs.Accepted.{accepted}
+use Rattle.chunk.specs.Chunk.{Entry, Parsed, bad, listing, index, isGood, isKind, entriesIn, spacingOf, firstPlace}
+use Rattle.chunk.proofs.Accepted.{chunk-accepted}
 use Rattle.header.specs.declared.Record.{Record}
 use Rattle.book.specs.Book.{limitsOf, chunkPlace, chunkBytes, directoryOf, reportOf}
 use Rattle.book.specs.declared.Report.{Report}
@@ -138,11 +137,11 @@ module _ (density time language : ℕ) (es : List Stored) (gs : List (List Store
   unfolding directoryOf layoutOver
   told c h =
       let e = meant .leaf c h in
-      let a = accepted (limitsOf file book) Listing (chunkBytes file book c) (ap (isKind Listing) e) in
+      let a = chunk-accepted (limitsOf file book) Listing (chunkBytes file book c) (ap (isKind Listing) e) in
       let there = names-there (limitsOf file book) (chunkBytes file book c) _ _ _ _ (a .entries) in
       let kept = all-at [] gs c (cut-kept density (length content) es gs cut) h in
       ap (λ (p : Parsed). map (toldOf file) (map (reportOf book c) (entriesIn p))) e
-      ∙ told-all file book c (a .size) (length content) (headOf Listing) (getD gs c []) kept (subst (λ (p : Parsed). All (There (chunkBytes file book c)) (entriesIn p)) e there)
+      ∙ told-all file book c (a .size) (length content) (firstPlace Listing) (getD gs c []) kept (subst (λ (p : Parsed). All (There (chunkBytes file book c)) (entriesIn p)) e there)
 
   lists : map (toldOf file) (wholeListing file book) ≡ es
   unfolding wholeListing layoutOver recordFor

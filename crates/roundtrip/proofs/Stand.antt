@@ -1,5 +1,4 @@
 -- Chunks that stand one behind another in a directory, each for a list of entries, and the first and the last name of a chunk.
--- Assumes nothing.
 use mathlib.Core.Path.{_≡_, refl, subst}
 use mathlib.Core.Bool.{true}
 use mathlib.Core.List.{List, [], _∷_, _++_}
@@ -14,13 +13,13 @@ use Rattle.seek.specs.Seek.{Sought, absent, found, nth, nameIn, final}
 use Rattle.entries.proofs.Rising.{rising-more}
 use Rattle.entries.specs.Rising.{rising}
 use Rattle.entries.specs.Stored.{Stored, storedName}
-use Rattle.pack.specs.Levels.{entrySize, firstName}
+use Rattle.pack.specs.Levels.{entrySize, groupName}
 use Rattle.compose.proofs.Placed.{placed, placedFrom, newParsed}
-use Rattle.layout.specs.Layout.{prevOf, nextOf}
+use Rattle.layout.specs.Layout.{newPrevious, newNext}
 
 -- what the entries of chunk c mean: in one of m listing chunks, and in an index chunk
 abbrev pub asLeaf : ℕ → ℕ → List Stored → Parsed
-asLeaf m c g = newParsed Listing (prevOf c) (nextOf m c) g
+asLeaf m c g = newParsed Listing (newPrevious c) (newNext m c) g
 
 abbrev pub asNode : ℕ → List Stored → Parsed
 asNode c g = newParsed Index 0 0 g
@@ -49,8 +48,8 @@ module _ (D : ℕ → Parsed) (f : ℕ → List Stored → Parsed) where
 -- ---- names
 
 module _ (k : Kind) where
-  pub placed-first : (at : ℕ) (g : List Stored) → nameIn (nth 0 (placedFrom k at g)) ≡ firstName g
-  unfolding placedFrom nth firstName
+  pub placed-first : (at : ℕ) (g : List Stored) → nameIn (nth 0 (placedFrom k at g)) ≡ groupName g
+  unfolding placedFrom nth groupName
   placed-first at [] = refl
   placed-first at (e ∷ g) = refl
 
@@ -69,7 +68,7 @@ module _ (k : Kind) where
       behind-last (at + entrySize k e) (found (placed k at e)) g rest (rising-more storedName last e (g ++ rest) h .1)
 
 -- entries that rise have the first name above the one before
-pub rising-first : (last : List ℕ) (g rest : List Stored) → 0 < length g → rising storedName last (g ++ rest) ≡ true → below last (firstName g) ≡ true
-unfolding firstName
+pub rising-first : (last : List ℕ) (g rest : List Stored) → 0 < length g → rising storedName last (g ++ rest) ≡ true → below last (groupName g) ≡ true
+unfolding groupName
 rising-first last [] rest p h = absurd (omega arith)
 rising-first last (e ∷ g) rest p h = rising-more storedName last e (g ++ rest) h .0

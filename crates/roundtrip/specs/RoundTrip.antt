@@ -1,5 +1,4 @@
 -- What the head of a new book is worth: with its content behind it, it is a book, and that book lists the entries that its layout holds.
--- Assumes nothing.
 use Prim.Native.Nat.{ℕ, _-_}
 use mathlib.Core.Path.{_≡_}
 use mathlib.Core.List.{List, _++_, map}
@@ -12,7 +11,7 @@ use Rattle.opening.specs.declared.Opened.the-variants.{Book}
 use Rattle.listing.specs.Whole.{wholeListing}
 use Rattle.entries.specs.Stored.{Stored}
 use Rattle.layout.specs.Headers.{headLength}
-use Rattle.layout.specs.Layout.{Layout, chunkCount, depthOf, rootOf, headBytes}
+use Rattle.layout.specs.Layout.{Layout, chunkCount, layoutDepth, newRoot, headBytes}
 
 -- the record that the inputs fix (FORMAT K1, W3 to W12)
 unfoldable pub recordFor : (density time language : ℕ) → Layout → Record
@@ -24,8 +23,8 @@ recordFor density time language l =
       start = 0x78;
       count = chunkCount l;
       density = density;
-      depth = depthOf l;
-      root = rootOf (depthOf l) (chunkCount l);
+      depth = layoutDepth l;
+      root = newRoot (layoutDepth l) (chunkCount l);
       first = 0;
       last = length (l .leaves) - 1;
       content = headLength (chunkCount l);

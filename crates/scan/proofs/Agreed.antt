@@ -1,6 +1,5 @@
 -- On a book that opening accepts, the search along the chain replies what lookup answers, for every name: `engines-agree`.
 -- And a refusal is 15 or 17, with no chunk: `scan-refusal`.
--- Assumes nothing.
 use mathlib.Core.Path.{_≡_, sym, ap, _∙_}
 use mathlib.Core.Logic.{_⊎_}
 use mathlib.Core.List.{List}

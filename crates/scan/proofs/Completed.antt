@@ -1,6 +1,5 @@
 -- Wherever the rules of the chain hold, the search along it finds exactly what listing chunks hold: `scan-complete`. So it does on every book that opening
 -- refuses for its index alone: `broken-index`.
--- Assumes nothing.
 use mathlib.Core.Path.{_≡_, refl, sym}
 use mathlib.Core.Bool.{true, false≢true}
 use mathlib.Core.List.{List}
@@ -12,8 +11,8 @@ use Rattle.header.specs.Header.{headerOf}
 use Rattle.header.specs.declared.Record.{Record}
 use Rattle.header.specs.declared.CheckedHeader.the-variants.{Good}
 use Rattle.tree.specs.Descent.{Outcome, found, absent, refused}
-use Rattle.tree.specs.Demand.{PlainDemand}
-use Rattle.tree.proofs.Reading.{plain-demand}
+use Rattle.tree.specs.Exact.{PlainExact}
+use Rattle.tree.proofs.Reading.{plain-exact}
 use Rattle.book.specs.Book.{directoryOf, shapeOf, reportOf}
 use Rattle.opening.specs.Opened.{opened}
 use Rattle.opening.specs.Refusals.{Told, head, chunk, chain, tree}
@@ -26,7 +25,7 @@ use Rattle.lookup.specs.declared.Reply.the-variants.{Refused}
 use Rattle.scan.specs.Scan.{plainIn, scanned}
 use Rattle.scan.specs.Complete.{ChainComplete, CompleteOnChain}
 
-module _ (s : List ℕ) (book : Record) (name : List ℕ) (d : PlainDemand (directoryOf s book) (shapeOf book) name) where
+module _ (s : List ℕ) (book : Record) (name : List ℕ) (d : PlainExact (directoryOf s book) (shapeOf book) name) where
   -- by what the search comes to
   complete-for : (o : Outcome) → plainIn s book name ≡ o → ChainComplete s book name (replyTo book o)
   complete-for (found c e) q = record {
@@ -47,7 +46,7 @@ module _ (s : List ℕ) (book : Record) (name : List ℕ) (d : PlainDemand (dire
 pub scan-complete : (s : List ℕ) (book : Record) (name : List ℕ) → CompleteOnChain s book name (scanned s book name)
 unfolding scanned
 scan-complete s book name a f c =
-    rw (replied-search s book name (plainIn s book name) a f) (complete-for s book name (plain-demand (directoryOf s book) (shapeOf book) c name) (plainIn s book name) refl)
+    rw (replied-search s book name (plainIn s book name) a f) (complete-for s book name (plain-exact (directoryOf s book) (shapeOf book) c name) (plainIn s book name) refl)
 
 -- ---- a book that opening refuses by 14, for its index alone
 

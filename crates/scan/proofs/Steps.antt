@@ -1,5 +1,4 @@
 -- What the search in one chunk makes of the reply: a law for each way that a turn of the loop goes.
--- Assumes nothing.
 use mathlib.Core.Path.{_≡_, sym, ap, _∙_}
 use mathlib.Core.List.{List}
 use Prim.Native.Nat.{ℕ, _-_, _≤_, _<_}

@@ -1,5 +1,4 @@
 -- What a search along the chain is worth wherever the rules of the chain hold, whatever the index chunks are: it finds exactly what is there (FORMAT K21).
--- Assumes nothing.
 use mathlib.Core.Path.{_≡_}
 use mathlib.Core.Logic.{_↔_, _≢_}
 use mathlib.Core.Bool.{true}
@@ -10,7 +9,7 @@ use Rattle.names.specs.Names.{askable}
 use Rattle.chunk.specs.Chunk.{Entry}
 use Rattle.header.specs.declared.Record.{Record}
 use Rattle.tree.specs.Chain.{chainOk}
-use Rattle.book.specs.Book.{directoryOf, shapeOf, bookFits, reportOf}
+use Rattle.book.specs.Book.{directoryOf, shapeOf, recordFits, reportOf}
 use Rattle.book.specs.declared.Report.{Report}
 use Rattle.lookup.specs.Complete.{HoldsIn}
 use Rattle.lookup.specs.declared.Reply.{Reply}
@@ -27,4 +26,4 @@ pub record ChainComplete (s : List ℕ) (book : Record) (name : List ℕ) (r : R
 -- for a name and a record that can be asked
 abbrev pub CompleteOnChain : List ℕ → Record → List ℕ → Reply → Type 0
 CompleteOnChain s book name r =
-    askable name ≡ true → bookFits s book ≡ true → chainOk (directoryOf s book) (shapeOf book) ≡ true → ChainComplete s book name r
+    askable name ≡ true → recordFits s book ≡ true → chainOk (directoryOf s book) (shapeOf book) ≡ true → ChainComplete s book name r

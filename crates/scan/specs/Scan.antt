@@ -1,5 +1,4 @@
 -- The search for a name along the chain of a file, read by a record, which may be made up; no index entry is followed (FORMAT K16 to K19).
--- Assumes nothing.
 use mathlib.Core.List.{List}
 use Prim.Native.Nat.{ℕ}
 use Rattle.header.specs.declared.Record.{Record}

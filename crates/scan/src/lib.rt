@@ -37,7 +37,7 @@ pub fn scan(file: &[u8], book: Record, name: &[u8]) -> Reply
     ensures complete { λ r. ⌜ CompleteOnChain (now (file .entry)) book (now (name .entry)) r ⌝ }
 {
     let good_name = names::is_askable(name);
-    let good_record = book::fits(file, book);
+    let good_record = book::record_fits(file, book);
     if !good_name {
         return Reply::Refused(refusals::refuse(15));
     }

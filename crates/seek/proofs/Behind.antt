@@ -1,5 +1,4 @@
 -- What is sought among entries whose names rise: it stands from one that is not above the name on, and before one that is above it.
--- Assumes nothing.
 use mathlib.Core.Path.{_≡_, refl, sym, ap, _∙_}
 use mathlib.Core.Logic.{_⊎_, inl, inr}
 use mathlib.Core.List.{List, [], _∷_}
@@ -14,7 +13,7 @@ use Rattle.names.proofs.Laws.{notGreater, names-laws, isLess-true, below-less, 
 use Rattle.entries.specs.Rising.{rising}
 use Rattle.chunk.specs.Chunk.{Entry, entryName}
 use Rattle.entries.proofs.Rising.{rising-more, rising-at}
-use Rattle.seek.specs.Seek.{Sought, absent, found, lookup, choice, nth, nameIn}
+use Rattle.seek.specs.Seek.{Sought, absent, found, entryNamed, choice, nth, nameIn}
 
 -- some entry, for places past the last
 abbrev pub other : Entry
@@ -35,8 +34,8 @@ below-it name x y h q =
 module _ (name : List ℕ) where
   -- ---- nothing stands behind a name that is not below it
 
-  pub lookup-behind : (x : List ℕ) (es : List Entry) → notGreater (compared name x) ≡ true → rising entryName x es ≡ true → lookup name es ≡ absent
-  unfolding rising lookup matches
+  pub lookup-behind : (x : List ℕ) (es : List Entry) → notGreater (compared name x) ≡ true → rising entryName x es ≡ true → entryNamed name es ≡ absent
+  unfolding rising entryNamed matches
   lookup-behind x [] h r = refl
   lookup-behind x (e ∷ es) h r =
       let q = rising-more entryName x e es r in
@@ -54,8 +53,8 @@ module _ (name : List ℕ) where
   -- ---- from an entry on that is not above
 
   pub lookup-from : (j : ℕ) (x : List ℕ) (es : List Entry) → rising entryName x es ≡ true → j < length es → isLess (compared name (getD es j other .name)) ≡ false
-      → lookup name es ≡ lookup name (drop j es)
-  unfolding rising lookup matches
+      → entryNamed name es ≡ entryNamed name (drop j es)
+  unfolding rising entryNamed matches
   lookup-from zero x es r h q = refl
   lookup-from (suc j) x [] r h q = absurd (omega arith)
   lookup-from (suc j) x (e ∷ es) r h q =
@@ -85,8 +84,8 @@ module _ (name : List ℕ) where
   fewer m e es (inl h) = inl (omega arith)
   fewer m e es (inr h) = inr (omega arith, h .1)
 
-  pub lookup-until : (m : ℕ) (x : List ℕ) (es : List Entry) → rising entryName x es ≡ true → Ends m es → lookup name es ≡ lookup name (take m es)
-  unfolding lookup matches
+  pub lookup-until : (m : ℕ) (x : List ℕ) (es : List Entry) → rising entryName x es ≡ true → Ends m es → entryNamed name es ≡ entryNamed name (take m es)
+  unfolding entryNamed matches
   lookup-until zero x [] r h = refl
   lookup-until zero x (e ∷ es) r (inl h) = absurd (omega arith)
   lookup-until zero x (e ∷ es) r (inr h) =

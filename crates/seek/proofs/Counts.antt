@@ -2,7 +2,6 @@
 --     cost-few     at most h + n, where 2 ^ h is the number of groups or more, and n entries are in a group
 --     cost-good    on a chunk that passes its check, as many over its bytes as among its entries
 --     cost-small   on any bytes, a number that fits 32 bits five times over
--- Assumes nothing.
 use mathlib.Core.Path.{_≡_, refl, sym, ap, ap₂, _∙_}
 use mathlib.Core.List.{List, [], _∷_}
 use mathlib.Core.Bool.{true}
@@ -23,8 +22,8 @@ use Rattle.entries.specs.declared.Item.the-variants.{Good, Bad}
 use Rattle.entries.proofs.Laws.{item-inside}
 use Rattle.entries.specs.declared.Kind.{Kind}
 use Rattle.entries.specs.declared.Kind.the-variants.{Listing, Index}
-use Rattle.chunk.specs.Chunk.{Entry, all, entryOf, entriesAt, countOf, tailOf, spacingOf, quickCount, parsed, entriesIn, isKind}
-use Rattle.chunk.proofs.Accepted.{accepted, entries-more}
+use Rattle.chunk.specs.Chunk.{Entry, all, entryOf, entriesAt, entryCount, tailLength, spacingOf, quickCount, parsed, entriesIn, isKind}
+use Rattle.chunk.proofs.Accepted.{chunk-accepted, entries-more}
 use Rattle.seek.specs.Seek.{Stand, byOrder, groupAt, groupAbove, lastGroup, groupIn, sizeIn}
 use Rattle.seek.specs.Count.{passed, aboveIn, groupOf, comparisons, comparedAt, walked, halvingsIn, costIn}
 use Rattle.seek.proofs.Halving.{halvings-few, halvings-fuel}
@@ -84,13 +83,13 @@ unfolding costIn comparisons
 cost-good limits k s stand h =
     let es = entriesIn (parsed limits s) in
     let n = spacingOf (limits .density) in
-    let a = accepted limits k s h in
+    let a = chunk-accepted limits k s h in
     let g = groupIn limits k s stand in
     let r = group-right limits k s es a stand in
     let size : sizeIn limits s g ≡ min n (length (drop (g * n) es)) =
     ap (min n) (sym (length-drop (g * n) es ∙ ap (λ (c : ℕ). c - g * n) (entries-counted limits k s es a))) in
     let w : walked limits k s stand (sizeIn limits s g) (groupAt k s g) ≡ passed stand (take n (drop (g * n) es)) =
-    walked-all limits k s stand (4096 - tailOf s) (countOf s - g * n) (sizeIn limits s g) (groupAt k s g) (drop (g * n) es) (omega arith)
+    walked-all limits k s stand (4096 - tailLength s) (entryCount s - g * n) (sizeIn limits s g) (groupAt k s g) (drop (g * n) es) (omega arith)
     (group-entries limits k s es a g (last-inside limits k s es a g (r .0)))
     ∙ ap (λ (m : ℕ). passed stand (take m (drop (g * n) es))) size ∙ ap (passed stand) (take-min n (drop (g * n) es)) in
     ap₂ (λ (x y : ℕ). x + y) (same-halvings limits k s es a stand)
@@ -119,10 +118,10 @@ module _ (limits : Limits) (k : Kind) (s : List ℕ) (stand : Stand) where
   pub spent-next : (left : ℕ) → 0 < left → left ≤ sizeIn limits s (groupIn limits k s stand) → spentIn left + 1 ≡ spentIn (left - 1)
   spent-next left h l = omega arith
 
-  group-small : countOf s < 65536 → (sizeIn limits s (groupIn limits k s stand) < 65536) × (halvingsIn limits k s stand < 65536)
+  group-small : entryCount s < 65536 → (sizeIn limits s (groupIn limits k s stand) < 65536) × (halvingsIn limits k s stand < 65536)
   group-small c =
       let a = halvings-fuel (groupAbove k s stand) (lastGroup limits s) 0 (lastGroup limits s) in
-      let b = div-le-self (countOf s - 1) (spacingOf (limits .density)) in
+      let b = div-le-self (entryCount s - 1) (spacingOf (limits .density)) in
       (omega arith, omega (arith, a, b, c))
 
   -- a size and a count that are the group's
@@ -130,10 +129,10 @@ module _ (limits : Limits) (k : Kind) (s : List ℕ) (stand : Stand) where
     pub spent-is : (left : ℕ) → count + (size - left) ≡ spentIn left
     spent-is left = ap₂ (λ (x y : ℕ). x + (y - left)) q p
 
-    pub spent-fits : countOf s < 65536 → (left : ℕ) → left ≤ sizeIn limits s (groupIn limits k s stand) → (left ≤ size) × (size < 65536) × (count < 65536)
+    pub spent-fits : entryCount s < 65536 → (left : ℕ) → left ≤ sizeIn limits s (groupIn limits k s stand) → (left ≤ size) × (size < 65536) × (count < 65536)
     spent-fits c left h = let m = group-small c in (omega (arith, p, h), omega (arith, p, m .0), omega (arith, q, m .1))
 
-  pub cost-small : countOf s < 65536 → costIn limits k s stand < 0x20000
+  pub cost-small : entryCount s < 65536 → costIn limits k s stand < 0x20000
   unfolding costIn
   cost-small c =
       let g = groupIn limits k s stand in

@@ -1,5 +1,4 @@
 -- Four entries in two groups of two: what each name costs, and that the bound h + n is reached.
--- Assumes nothing.
 use mathlib.Core.Path.{_≡_, refl}
 use mathlib.Core.List.{List, [], _∷_}
 use Prim.Native.Nat.{ℕ}

@@ -3,7 +3,6 @@
 --     choose-good    the entry to go down from
 --     nth-good       entry i
 --     last-good      the last entry
--- Assumes nothing.
 use mathlib.Core.Path.{_≡_, refl, sym, ap, subst, _∙_}
 use mathlib.Core.List.{List, [], _∷_}
 use mathlib.Core.Bool.{true, cond}
@@ -24,10 +23,10 @@ use Rattle.entries.specs.declared.Place.{Place}
 use Rattle.entries.specs.declared.Kind.{Kind}
 use Rattle.entries.specs.declared.Kind.the-variants.{Listing, Index}
 use Rattle.entries.specs.Rising.{rising}
-use Rattle.chunk.specs.Chunk.{Entry, all, entryOf, entriesAt, headOf, countOf, tailOf, spacingOf, parsed, entriesIn, isKind, entryName}
+use Rattle.chunk.specs.Chunk.{Entry, all, entryOf, entriesAt, firstPlace, entryCount, tailLength, spacingOf, parsed, entriesIn, isKind, entryName}
 use Rattle.entries.proofs.Rising.{rising-more, rising-take, rising-drop}
-use Rattle.chunk.proofs.Accepted.{Accepted, accepted, entries-more, entries-count}
-use Rattle.seek.specs.Seek.{byOrder, absent, found, lookup, choice, nth, final, soughtOf, findAt, chooseAt, afterAt, groupAt, groupIn, sizeIn, nthIn, findIn, chooseIn, lastIn}
+use Rattle.chunk.proofs.Accepted.{Accepted, chunk-accepted, entries-more, entries-count}
+use Rattle.seek.specs.Seek.{byOrder, absent, found, entryNamed, choice, nth, final, soughtOf, findAt, chooseAt, afterAt, groupAt, groupIn, sizeIn, nthIn, findIn, chooseIn, lastIn}
 use Rattle.seek.proofs.Behind.{lookup-behind, choice-behind}
 use Rattle.seek.proofs.Groups.{group-entries, last-inside, group-right, group-lookup, group-choice}
 use Rattle.seek.specs.declared.Hit.{Hit}
@@ -36,15 +35,15 @@ use Rattle.seek.specs.declared.Hit.the-variants.{At, Nothing}
 -- ---- the entry of a name
 
 find-here : (s name : List ℕ) (p : Place) (h : Hit) (es : List Entry) (o : Order) → compared name (nameOf s p) ≡ o → rising entryName (nameOf s p) es ≡ true
-    → soughtOf s h ≡ lookup name es → soughtOf s (byOrder o Nothing (At p) h) ≡ cond (isEqual o) (found (entryOf s p)) (lookup name es)
+    → soughtOf s h ≡ entryNamed name es → soughtOf s (byOrder o Nothing (At p) h) ≡ cond (isEqual o) (found (entryOf s p)) (entryNamed name es)
 find-here s name p h es Less q r e = sym (lookup-behind name (nameOf s p) es (ap notGreater q) r)
 find-here s name p h es Equal q r e = refl
 find-here s name p h es Greater q r e = e
 
 -- among the first m of n entries
 find-all : (limits : Limits) (s name : List ℕ) (end n m at : ℕ) (x : List ℕ) (es : List Entry) → m ≤ n → entriesAt limits Listing s end n at ≡ all es → rising entryName x es ≡ true
-    → soughtOf s (findAt limits s (compared name) m at) ≡ lookup name (take m es)
-unfolding findAt lookup matches
+    → soughtOf s (findAt limits s (compared name) m at) ≡ entryNamed name (take m es)
+unfolding findAt entryNamed matches
 find-all limits s name end n zero at x es l e r = refl
 find-all limits s name end zero (suc m) at x es l e r = absurd (omega arith)
 find-all limits s name end (suc n) (suc m) at x es l e r =
@@ -52,9 +51,9 @@ find-all limits s name end (suc n) (suc m) at x es l e r =
     let p = t .0 in
     let q = rising-more entryName x (entryOf s p) (t .1) (subst (λ (l : List Entry). rising entryName x l ≡ true) (t .3) r) in
     let i = find-all limits s name end n m (p .next) (nameOf s p) (t .1) (omega arith) (t .4) (q .1) in
-    let here : soughtOf s (findAt limits s (compared name) (suc m) at) ≡ lookup name (take (suc m) (entryOf s p ∷ t .1)) =
+    let here : soughtOf s (findAt limits s (compared name) (suc m) at) ≡ entryNamed name (take (suc m) (entryOf s p ∷ t .1)) =
     rw (t .2) (find-here s name p (findAt limits s (compared name) m (p .next)) (take m (t .1)) (compared name (nameOf s p)) refl (rising-take entryName m (nameOf s p) (t .1) (q .1)) i) in
-    here ∙ ap (λ (l : List Entry). lookup name (take (suc m) l)) (sym (t .3))
+    here ∙ ap (λ (l : List Entry). entryNamed name (take (suc m) l)) (sym (t .3))
 
 -- ---- the entry to go down from
 
@@ -111,26 +110,26 @@ module _ (limits : Limits) (k : Kind) (s : List ℕ) (es : List Entry) (good : A
   abbrev n : ℕ
   n = spacingOf (limits .density)
 
-  nth-inside : (i : ℕ) → i < countOf s → soughtOf s (nthIn limits k s i) ≡ nth i es
+  nth-inside : (i : ℕ) → i < entryCount s → soughtOf s (nthIn limits k s i) ≡ nth i es
   unfolding nthIn
   nth-inside i l =
       let g = i / n in
       let j = i % n in
       let i-is : g * n + j ≡ i = div-add-mod' i n in
-      let low : g * n < countOf s = omega arith in
+      let low : g * n < entryCount s = omega arith in
       let f = group-entries limits k s es good g low in
       rw (lt-ltb _ _ l)
-      (after-all limits k s (4096 - tailOf s) (countOf s - g * n) j (groupAt k s g) (drop (g * n) es) (omega arith) f
+      (after-all limits k s (4096 - tailLength s) (entryCount s - g * n) j (groupAt k s g) (drop (g * n) es) (omega arith) f
       ∙ nth-drop (g * n) j es ∙ ap (λ (x : ℕ). nth x es) i-is)
 
-  nth-outside : (i : ℕ) → countOf s ≤ i → soughtOf s (nthIn limits k s i) ≡ nth i es
+  nth-outside : (i : ℕ) → entryCount s ≤ i → soughtOf s (nthIn limits k s i) ≡ nth i es
   unfolding nthIn
   nth-outside i l =
-      let c = entries-count limits k s (4096 - tailOf s) (countOf s) (headOf k) es (good .entries) in
+      let c = entries-count limits k s (4096 - tailLength s) (entryCount s) (firstPlace k) es (good .entries) in
       rw (le-ltb _ _ l) (sym (nth-past i es (omega arith)))
 
   nth-accepted : (i : ℕ) → soughtOf s (nthIn limits k s i) ≡ nth i es
-  nth-accepted i = elim (decLt i (countOf s)) [ yes l ↦ nth-inside i l | no l ↦ nth-outside i (omega arith) ]
+  nth-accepted i = elim (decLt i (entryCount s)) [ yes l ↦ nth-inside i l | no l ↦ nth-outside i (omega arith) ]
 
 -- ---- the last entry
 
@@ -147,34 +146,34 @@ nth-last (e ∷ es) = let z : suc (length es) - 1 ≡ length es = omega arith in
 -- ---- a chunk that passes its check
 
 module _ (limits : Limits) (s : List ℕ) where
-  pub find-good : (name : List ℕ) → isKind Listing (parsed limits s) ≡ true → soughtOf s (findIn limits s (compared name)) ≡ lookup name (entriesIn (parsed limits s))
+  pub find-good : (name : List ℕ) → isKind Listing (parsed limits s) ≡ true → soughtOf s (findIn limits s (compared name)) ≡ entryNamed name (entriesIn (parsed limits s))
   find-good name h =
       let es = entriesIn (parsed limits s) in
-      let a = accepted limits Listing s h in
+      let a = chunk-accepted limits Listing s h in
       let g = groupIn limits Listing s (compared name) in
       let r = group-right limits Listing s es a (compared name) in
       let b = rising-drop entryName (g * spacingOf (limits .density)) [] es (a .rises) in
-      find-all limits s name (4096 - tailOf s) (countOf s - g * spacingOf (limits .density)) (sizeIn limits s g) (groupAt Listing s g) [] (drop (g * spacingOf (limits .density)) es) (omega arith)
+      find-all limits s name (4096 - tailLength s) (entryCount s - g * spacingOf (limits .density)) (sizeIn limits s g) (groupAt Listing s g) [] (drop (g * spacingOf (limits .density)) es) (omega arith)
       (group-entries limits Listing s es a g (last-inside limits Listing s es a g (r .0))) b
       ∙ sym (group-lookup limits Listing s es a name g r)
 
   pub choose-good : (name : List ℕ) → isKind Index (parsed limits s) ≡ true → soughtOf s (chooseIn limits s (compared name)) ≡ choice name absent (entriesIn (parsed limits s))
   choose-good name h =
       let es = entriesIn (parsed limits s) in
-      let a = accepted limits Index s h in
+      let a = chunk-accepted limits Index s h in
       let g = groupIn limits Index s (compared name) in
       let r = group-right limits Index s es a (compared name) in
       let b = rising-drop entryName (g * spacingOf (limits .density)) [] es (a .rises) in
-      choose-all limits s name (4096 - tailOf s) (countOf s - g * spacingOf (limits .density)) (sizeIn limits s g) (groupAt Index s g) [] Nothing (drop (g * spacingOf (limits .density)) es) (omega arith)
+      choose-all limits s name (4096 - tailLength s) (entryCount s - g * spacingOf (limits .density)) (sizeIn limits s g) (groupAt Index s g) [] Nothing (drop (g * spacingOf (limits .density)) es) (omega arith)
       (group-entries limits Index s es a g (last-inside limits Index s es a g (r .0))) b
       ∙ sym (group-choice limits Index s es a name g r)
 
   pub nth-good : (k : Kind) (i : ℕ) → isKind k (parsed limits s) ≡ true → soughtOf s (nthIn limits k s i) ≡ nth i (entriesIn (parsed limits s))
-  nth-good k i h = nth-accepted limits k s (entriesIn (parsed limits s)) (accepted limits k s h) i
+  nth-good k i h = nth-accepted limits k s (entriesIn (parsed limits s)) (chunk-accepted limits k s h) i
 
   pub last-good : (k : Kind) → isKind k (parsed limits s) ≡ true → soughtOf s (lastIn limits k s) ≡ final absent (entriesIn (parsed limits s))
   last-good k h =
       let es = entriesIn (parsed limits s) in
-      let g = accepted limits k s h in
-      let c = entries-count limits k s (4096 - tailOf s) (countOf s) (headOf k) es (g .entries) in
-      nth-good k (countOf s - 1) h ∙ ap (λ (x : ℕ). nth (x - 1) es) (sym c) ∙ nth-last es
+      let g = chunk-accepted limits k s h in
+      let c = entries-count limits k s (4096 - tailLength s) (entryCount s) (firstPlace k) es (g .entries) in
+      nth-good k (entryCount s - 1) h ∙ ap (λ (x : ℕ). nth (x - 1) es) (sym c) ∙ nth-last es

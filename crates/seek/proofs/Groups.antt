@@ -4,7 +4,6 @@
 --     same-group     halving over the bytes leaves the group that halving the entries does, and
 --     same-halvings  takes as many comparisons
 --     group-lookup, group-choice  what is sought among all entries is sought among those of that group
--- Assumes nothing.
 use mathlib.Core.Path.{_≡_, refl, sym, ap, ap₂, subst, _∙_}
 use mathlib.Core.Logic.{inl, inr}
 use mathlib.Core.List.{List, []}
@@ -23,18 +22,18 @@ use Rattle.entries.specs.Entry.{nameOf}
 use Rattle.entries.specs.declared.Limits.{Limits}
 use Rattle.entries.proofs.Laws.{item-inside}
 use Rattle.entries.specs.declared.Kind.{Kind}
-use Rattle.chunk.specs.Chunk.{Entry, all, entriesAt, headOf, countOf, tailOf, spacingOf, quickCount, entryName}
+use Rattle.chunk.specs.Chunk.{Entry, all, entriesAt, firstPlace, entryCount, tailLength, spacingOf, quickCount, entryName}
 use Rattle.chunk.proofs.Accepted.{Accepted, entries-more, entries-count}
 use Rattle.chunk.proofs.Quick.{word}
 use Rattle.entries.proofs.Rising.{rising-drop}
-use Rattle.seek.specs.Seek.{Stand, absent, lookup, choice, nth, nameIn, halved, groupAt, groupAbove, lastGroup, groupIn, sizeIn}
+use Rattle.seek.specs.Seek.{Stand, absent, entryNamed, choice, nth, nameIn, halved, groupAt, groupAbove, lastGroup, groupIn, sizeIn}
 use Rattle.seek.specs.Count.{halvings, aboveIn, groupOf, halvingsIn}
 use Rattle.seek.proofs.Halving.{Lower, Upper, halved-one, halvings-one, halved-right, halved-same, halvings-same}
 use Rattle.seek.proofs.Behind.{other, nth-name, Ends, lookup-from, choice-from, lookup-until, choice-until}
 
 -- ---- the group of an empty chunk, and of one whose density is capped
 
-pub group-none : (limits : Limits) (k : Kind) (s : List ℕ) (stand : Stand) → countOf s < 1
+pub group-none : (limits : Limits) (k : Kind) (s : List ℕ) (stand : Stand) → entryCount s < 1
     → (groupIn limits k s stand ≡ 0) × (halvingsIn limits k s stand ≡ 0)
 unfolding groupIn
 group-none limits k s stand h =
@@ -95,33 +94,33 @@ module _ (limits : Limits) (k : Kind) (s : List ℕ) (es : List Entry) (good : A
   n = spacingOf (limits .density)
 
   -- a quick word leads to its entry
-  group-place : (g : ℕ) → g * n < countOf s → groupAt k s g ≡ getD es (g * n) other .at
+  group-place : (g : ℕ) → g * n < entryCount s → groupAt k s g ≡ getD es (g * n) other .at
   unfolding groupAt
   group-place g l =
-      let c = entries-count limits k s (4096 - tailOf s) (countOf s) (headOf k) es (good .entries) in
+      let c = entries-count limits k s (4096 - tailLength s) (entryCount s) (firstPlace k) es (good .entries) in
       elim (ℕ-discrete g 0) [
-        | yes z ↦ (let f = first-place limits k s other (4096 - tailOf s) (countOf s) (headOf k) es (good .some) (good .entries) in
+        | yes z ↦ (let f = first-place limits k s other (4096 - tailLength s) (entryCount s) (firstPlace k) es (good .some) (good .entries) in
             let y : g * n ≡ 0 = omega (arith, ap (λ (x : ℕ). x * n) z) in
             rw (eq-eqb g 0 z, y) (sym f))
-        | no z ↦ rw (ne-eqb g 0 z) (word s n (headOf k) other es g (good .words) (omega arith) (omega arith) (omega arith))
+        | no z ↦ rw (ne-eqb g 0 z) (word s n (firstPlace k) other es g (good .words) (omega arith) (omega arith) (omega arith))
       ]
 
-  pub group-entries : (g : ℕ) → g * n < countOf s → entriesAt limits k s (4096 - tailOf s) (countOf s - g * n) (groupAt k s g) ≡ all (drop (g * n) es)
-  group-entries g l = rw (group-place g l) (from-entry limits k s other (4096 - tailOf s) (countOf s) (g * n) (headOf k) es l (good .entries))
+  pub group-entries : (g : ℕ) → g * n < entryCount s → entriesAt limits k s (4096 - tailLength s) (entryCount s - g * n) (groupAt k s g) ≡ all (drop (g * n) es)
+  group-entries g l = rw (group-place g l) (from-entry limits k s other (4096 - tailLength s) (entryCount s) (g * n) (firstPlace k) es l (good .entries))
 
   -- ---- the group that halving leaves
 
-  pub entries-counted : length es ≡ countOf s
-  entries-counted = entries-count limits k s (4096 - tailOf s) (countOf s) (headOf k) es (good .entries)
+  pub entries-counted : length es ≡ entryCount s
+  entries-counted = entries-count limits k s (4096 - tailLength s) (entryCount s) (firstPlace k) es (good .entries)
 
   -- the first name of a group is read where its quick word says
-  above-is : (stand : Stand) (g : ℕ) → g * n < countOf s → groupAbove k s stand g ≡ aboveIn n stand es g
+  above-is : (stand : Stand) (g : ℕ) → g * n < entryCount s → groupAbove k s stand g ≡ aboveIn n stand es g
   unfolding groupAbove
   above-is stand g l =
-      let m = countOf s - g * n - 1 in
-      let z : countOf s - g * n ≡ suc m = omega arith in
-      let e = subst (λ (i : ℕ). entriesAt limits k s (4096 - tailOf s) i (groupAt k s g) ≡ all (drop (g * n) es)) z (group-entries g l) in
-      let r = entries-more limits k s (4096 - tailOf s) m (groupAt k s g) (drop (g * n) es) e in
+      let m = entryCount s - g * n - 1 in
+      let z : entryCount s - g * n ≡ suc m = omega arith in
+      let e = subst (λ (i : ℕ). entriesAt limits k s (4096 - tailLength s) i (groupAt k s g) ≡ all (drop (g * n) es)) z (group-entries g l) in
+      let r = entries-more limits k s (4096 - tailLength s) m (groupAt k s g) (drop (g * n) es) e in
       let i = item-inside limits k s (groupAt k s g) (r .0) (r .2) in
       let y : g * n + 0 ≡ g * n = omega arith in
       let f : nameIn (nth (g * n) es) ≡ nameOf s (r .0) =
@@ -129,16 +128,16 @@ module _ (limits : Limits) (k : Kind) (s : List ℕ) (es : List Entry) (good : A
       rw (i .read) (ap (λ (x : List ℕ). isLess (stand x)) (sym f))
 
   abbrev last : ℕ
-  last = quickCount n (countOf s)
+  last = quickCount n (entryCount s)
 
-  pub last-inside : (g : ℕ) → g ≤ last → g * n < countOf s
+  pub last-inside : (g : ℕ) → g ≤ last → g * n < entryCount s
   last-inside g h = let m = le-div-iff-mul-le {k = n} (omega arith) .0 h in omega (arith, good .some)
 
   -- behind the last group there is no entry
-  pub last-full : countOf s ≤ last * n + n
+  pub last-full : entryCount s ≤ last * n + n
   last-full =
-      let m = div-add-mod' (countOf s - 1) n in
-      let b = mod-lt (countOf s - 1) {m = n} (omega arith) in
+      let m = div-add-mod' (entryCount s - 1) n in
+      let b = mod-lt (entryCount s - 1) {m = n} (omega arith) in
       omega (arith, m, b)
 
   same-above : (stand : Stand) (g : ℕ) → g ≤ last → groupAbove k s stand g ≡ aboveIn n stand es g
@@ -174,12 +173,12 @@ module _ (limits : Limits) (k : Kind) (s : List ℕ) (es : List Entry) (good : A
     inside : g * n < length es
     inside = let l = last-inside g (right .0) in omega (arith, entries-counted, l)
 
-    size : length (drop (g * n) es) ≡ countOf s - g * n
+    size : length (drop (g * n) es) ≡ entryCount s - g * n
     size = length-drop (g * n) es ∙ ap (λ (c : ℕ). c - g * n) entries-counted
 
     -- behind the group's last entry there is none, or one that is above the name
     ends-last : g ≡ last → Ends name (sizeIn limits s g) (drop (g * n) es)
-    ends-last z = let f : countOf s ≤ g * n + n = rw z last-full in inl (omega (arith, f, size))
+    ends-last z = let f : entryCount s ≤ g * n + n = rw z last-full in inl (omega (arith, f, size))
 
     ends-before : g < last → aboveIn n (compared name) es (g + 1) ≡ true → Ends name (sizeIn limits s g) (drop (g * n) es)
     ends-before l a =
@@ -197,11 +196,11 @@ module _ (limits : Limits) (k : Kind) (s : List ℕ) (es : List Entry) (good : A
         go (inl z) = ends-last z
         go (inr a) = elim (decLt g last) [ yes l ↦ ends-before l a | no l ↦ ends-last (omega (arith, right .0)) ]
 
-    pub group-lookup : lookup name es ≡ lookup name (take (sizeIn limits s g) (drop (g * n) es))
+    pub group-lookup : entryNamed name es ≡ entryNamed name (take (sizeIn limits s g) (drop (g * n) es))
     group-lookup = go (right .1) ∙ lookup-until name (sizeIn limits s g) [] (drop (g * n) es) (rising-drop entryName (g * n) [] es (good .rises)) ends
       where
-        go : Lower (aboveIn n (compared name) es) g → lookup name es ≡ lookup name (drop (g * n) es)
-        go (inl z) = let y : 0 ≡ g * n = omega (arith, ap (λ (x : ℕ). x * n) z) in ap (λ (i : ℕ). lookup name (drop i es)) y
+        go : Lower (aboveIn n (compared name) es) g → entryNamed name es ≡ entryNamed name (drop (g * n) es)
+        go (inl z) = let y : 0 ≡ g * n = omega (arith, ap (λ (x : ℕ). x * n) z) in ap (λ (i : ℕ). entryNamed name (drop i es)) y
         go (inr b) = lookup-from name (g * n) [] es (good .rises) inside (sym (first-is g) ∙ b)
 
     pub group-choice : choice name absent es ≡ choice name absent (take (sizeIn limits s g) (drop (g * n) es))

@@ -2,7 +2,6 @@
 --     halved-right   the group that is left is the first or not above, and the last or has one behind it that is above
 --     halved-enough, halvings-enough  the bound on the turns is no bound on what is found
 --     halvings-few   with 2 ^ h at least the number of groups, h comparisons are enough
--- Assumes nothing.
 use mathlib.Core.Path.{_≡_, refl, sym, ap, ap₂, _∙_}
 use mathlib.Core.Logic.{_⊎_, inr}
 use mathlib.Core.Bool.{Bool, true, false, cond}

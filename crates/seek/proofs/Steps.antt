@@ -1,5 +1,4 @@
 -- What one turn of a search over a chunk's bytes finds, with `left` entries left and the next at a place.
--- Assumes nothing.
 use mathlib.Core.Path.{_≡_, refl, sym, ap, _∙_}
 use mathlib.Core.List.{List}
 use Prim.Native.Nat.{ℕ, zero, suc, _+_, _-_, _/_, _%_, _≤_, _<_}
@@ -22,7 +21,7 @@ use Rattle.entries.specs.declared.Item.the-variants.{Good, Bad}
 use Rattle.entries.proofs.Laws.{onItem, test-passed, item-inside, item-named, item-unnamed}
 use Rattle.entries.specs.declared.Kind.{Kind}
 use Rattle.entries.specs.declared.Kind.the-variants.{Listing, Index}
-use Rattle.chunk.specs.Chunk.{countOf, spacingOf}
+use Rattle.chunk.specs.Chunk.{entryCount, spacingOf, countPlace}
 use Rattle.seek.specs.Seek.{Stand, byOrder, findAt, chooseAt, childOf, afterAt, groupAt, nthIn}
 use Rattle.seek.specs.Count.{comparedAt, walked}
 use Rattle.seek.specs.declared.CountedHit.{CountedHit}
@@ -153,10 +152,10 @@ module _ (limits : Limits) (k : Kind) (s : List ℕ) (left at : ℕ) where
 
 -- ---- a chunk that has a count has its bytes in front of the count's last
 
-pub counted : (s : List ℕ) → 0 < countOf s → 4094 < length s
+pub counted : (s : List ℕ) → 0 < entryCount s → countPlace < length s
 counted s h =
-    elim (decLe (length s) 4094) [
-      | yes l ↦ absurd (omega (arith, h, le-past 2 s 4094 l))
+    elim (decLe (length s) countPlace) [
+      | yes l ↦ absurd (omega (arith, h, le-past 2 s countPlace l))
       | no l ↦ omega arith
     ]
 
@@ -204,10 +203,10 @@ after-read limits k s (suc j) at e h =
     (λ p g. after-read limits k s j (p .next) e (rw g at h))
 
 pub nth-read : (limits : Limits) (k : Kind) (s : List ℕ) (i : ℕ) (e : Place) → nthIn limits k s i ≡ At e
-    → (i < countOf s) × (p : ℕ) × (itemAt limits k s p ≡ Good e)
+    → (i < entryCount s) × (p : ℕ) × (itemAt limits k s p ≡ Good e)
 unfolding nthIn
 nth-read limits k s i e h =
     let n : ℕ = spacingOf (limits .density) in
-    let t = test-passed (ltb i (countOf s)) (afterAt limits k s (i % n) (groupAt k s (i / n))) Nothing (At e) (λ d. let z : _≡_ {A = ℕ} 0 1 = cc in omega arith) h in
+    let t = test-passed (ltb i (entryCount s)) (afterAt limits k s (i % n) (groupAt k s (i / n))) Nothing (At e) (λ d. let z : _≡_ {A = ℕ} 0 1 = cc in omega arith) h in
     let r = after-read limits k s (i % n) (groupAt k s (i / n)) e (t .1) in
-    (ltb-true i (countOf s) (t .0), r .0, r .1)
+    (ltb-true i (entryCount s) (t .0), r .0, r .1)

@@ -1,6 +1,5 @@
 -- How many comparisons of the asked name a search in one chunk makes. First over the list of a chunk's entries, which is what is meant; then over the
 -- chunk's bytes, which is how it goes. `cost-good` of proofs/Counts.antt says that on a chunk that passes its check the two are the same.
--- Assumes nothing.
 use mathlib.Core.List.{List, [], _∷_}
 use mathlib.Core.Bool.{Bool, cond}
 use Prim.Native.Nat.{ℕ, zero, suc, _+_, _-_, _*_, _^_, _≤_}

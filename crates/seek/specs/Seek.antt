@@ -1,6 +1,5 @@
 -- Search in one chunk. First over the list of a chunk's entries, which is what a search means; then over the chunk's bytes, which is how it goes.
 -- The laws of proofs/Good.antt say that on a chunk that passes its check the two are the same.
--- Assumes nothing.
 use Prim.Native.Nat.{ℕ, zero, suc, _+_, _-_, _*_, _/_, _%_, min}
 use mathlib.Core.List.{List, [], _∷_}
 use mathlib.Core.Bool.{Bool, true, cond}
@@ -14,7 +13,7 @@ use Rattle.entries.specs.Entry.{withNumber, nameAt, itemAt, nameOf, withItem}
 use Rattle.entries.specs.declared.Limits.{Limits}
 use Rattle.entries.specs.declared.Kind.{Kind}
 use Rattle.entries.specs.declared.Kind.the-variants.{Listing, Index}
-use Rattle.chunk.specs.Chunk.{Entry, entryOf, headOf, countOf, spacingOf, quickCount, quickWord}
+use Rattle.chunk.specs.Chunk.{Entry, entryOf, firstPlace, entryCount, spacingOf, quickCount, quickWord}
 use Rattle.seek.specs.declared.Child.{Child}
 use Rattle.seek.specs.declared.Child.the-variants.{Below, Nowhere}
 use Rattle.seek.specs.declared.Hit.{Hit}
@@ -27,9 +26,9 @@ pub data Sought : Type 0 where
   found : Entry → Sought
 
 -- the entry whose name compares equal to a name
-unfoldable pub lookup : List ℕ → List Entry → Sought
-lookup name [] = absent
-lookup name (e ∷ es) = cond (matches name (e .name)) (found e) (lookup name es)
+unfoldable pub entryNamed : List ℕ → List Entry → Sought
+entryNamed name [] = absent
+entryNamed name (e ∷ es) = cond (matches name (e .name)) (found e) (entryNamed name es)
 
 -- the last entry whose name is not above a name, with `last` that of the entries before
 unfoldable pub choice : List ℕ → Sought → List Entry → Sought
@@ -104,7 +103,7 @@ afterAt limits k s (suc j) at = withItem (itemAt limits k s at) Nothing (λ e. a
 
 -- the place of the entry that quick word g is for; the first entry for 0
 unfoldable pub groupAt : Kind → List ℕ → ℕ → ℕ
-groupAt k s g = cond (eqb g 0) (headOf k) (headOf k + quickWord s g)
+groupAt k s g = cond (eqb g 0) (firstPlace k) (firstPlace k + quickWord s g)
 
 -- the first name of group g is above the asked one, or is none
 unfoldable pub groupAbove : Kind → List ℕ → Stand → ℕ → Bool
@@ -112,7 +111,7 @@ groupAbove k s stand g = withNumber (nameAt s (groupAt k s g)) true (λ len star
 
 -- the last group of a chunk
 abbrev pub lastGroup : Limits → List ℕ → ℕ
-lastGroup limits s = quickCount (spacingOf (limits .density)) (countOf s)
+lastGroup limits s = quickCount (spacingOf (limits .density)) (entryCount s)
 
 -- of all groups of a chunk, the one that halving leaves
 unfoldable pub groupIn : Limits → Kind → List ℕ → Stand → ℕ
@@ -120,7 +119,7 @@ groupIn limits k s stand = halved (groupAbove k s stand) (lastGroup limits s) 0 
 
 -- how many entries group g has
 abbrev pub sizeIn : Limits → List ℕ → ℕ → ℕ
-sizeIn limits s g = min (spacingOf (limits .density)) (countOf s - g * spacingOf (limits .density))
+sizeIn limits s g = min (spacingOf (limits .density)) (entryCount s - g * spacingOf (limits .density))
 
 -- ---- the searches of a whole chunk: the groups are halved, and the one that is left is gone through from its front, no further than its end
 
@@ -139,10 +138,10 @@ childOf (At e) = Below (e .child)
 -- entry i, from the last quick word that is not behind it
 unfoldable pub nthIn : Limits → Kind → List ℕ → ℕ → Hit
 nthIn limits k s i =
-    cond (ltb i (countOf s)) (afterAt limits k s (i % spacingOf (limits .density)) (groupAt k s (i / spacingOf (limits .density)))) Nothing
+    cond (ltb i (entryCount s)) (afterAt limits k s (i % spacingOf (limits .density)) (groupAt k s (i / spacingOf (limits .density)))) Nothing
 
 abbrev pub firstIn : Limits → Kind → List ℕ → Hit
 firstIn limits k s = nthIn limits k s 0
 
 abbrev pub lastIn : Limits → Kind → List ℕ → Hit
-lastIn limits k s = nthIn limits k s (countOf s - 1)
+lastIn limits k s = nthIn limits k s (entryCount s - 1)

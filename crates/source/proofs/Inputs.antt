@@ -1,5 +1,4 @@
 -- A pass over the input, as a loop has it: the entries that are left, with the place of the next one and the name before it.
--- Assumes nothing.
 use mathlib.Core.Path.{_≡_, refl}
 use mathlib.Core.List.{List, [], _∷_, map}
 use mathlib.Core.Bool.{Bool, true, false, _&&_}
@@ -16,7 +15,7 @@ use Rattle.entries.specs.declared.Place.{Place}
 use Rattle.entries.specs.declared.Item.the-variants.{Good}
 use Rattle.entries.specs.Rising.{rising}
 use Rattle.entries.specs.Stored.{storedOf, unpadded, storedName}
-use Rattle.source.specs.Source.{run, endOf}
+use Rattle.source.specs.Source.{entriesFrom, endOf}
 use Rattle.source.specs.Input.{given, inputRight, allUnpadded}
 use Rattle.source.proofs.Rows.{run-more}
 
@@ -38,7 +37,7 @@ entry-first false false us r rs = refl
 module _ (content : ℕ) (s : List ℕ) where
   -- the entries from a place on, where so many may be taken
   abbrev pub ahead : ℕ → ℕ → List Place
-  ahead left at = run (listingAt content s) left at
+  ahead left at = entriesFrom (listingAt content s) left at
 
   some-read : (at : ℕ) (es : List Place) → (at ≡ length s → ⊥) → passes s at [] es ≡ (ltb 0 (length es) && passes s at [] es)
   unfolding endOf
@@ -50,7 +49,7 @@ module _ (content : ℕ) (s : List ℕ) where
   passes-start h = some-read 0 (ahead (length s) 0) h
 
   pub passes-empty : length s ≡ 0 → inputRight content s ≡ false
-  unfolding inputRight run
+  unfolding inputRight entriesFrom
   passes-empty h = rw h (rw (le-ltb 0 0 (le-refl 0)))
 
   -- no entry is left

@@ -1,5 +1,4 @@
 -- What every entry keeps that the writer is given (FORMAT E3 to E6).
--- Assumes nothing.
 use mathlib.Core.Path.{_≡_}
 use mathlib.Core.List.{List}
 use mathlib.Core.Bool.{true, _||_}

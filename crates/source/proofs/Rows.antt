@@ -1,5 +1,4 @@
 -- What is known of an entry that a step hands out (`row-of`), and the entries from a cursor on, one by one (`run-more`, `run-end`).
--- Assumes nothing.
 use mathlib.Core.Path.{_≡_, refl, sym, subst}
 use mathlib.Core.List.{List, [], _∷_}
 use mathlib.Core.Bool.{Bool, true, false}
@@ -15,7 +14,7 @@ use Rattle.entries.specs.declared.Item.the-variants.{Good, Bad}
 use Rattle.entries.proofs.Laws.{bad-no-good, onItem, number-passed, test-passed, item-passed, name-next, listing-inside}
 use Rattle.entries.specs.declared.Kind.{Kind}
 use Rattle.entries.specs.declared.Kind.the-variants.{Listing, Index}
-use Rattle.source.specs.Source.{childAt, itemFrom, takenOf, run, endOf, rowsFrom}
+use Rattle.source.specs.Source.{indexEntryFor, itemFrom, takenOf, entriesFrom, endOf, rowsFrom}
 use Rattle.fields.proofs.Lists.{All, none, more}
 
 -- ---- what an entry is known to be
@@ -32,8 +31,8 @@ named-row s e h =
     let n = name-next s (e .at) (e .len) (e .start) h in
     record { named = h; some = n .0; short = n .1; inside = n .2 }
 
-child-row : (s starts : List ℕ) (c : ℕ) (e : Place) → childAt s starts c ≡ Good e → Row s e
-unfolding childAt
+child-row : (s starts : List ℕ) (c : ℕ) (e : Place) → indexEntryFor s starts c ≡ Good e → Row s e
+unfolding indexEntryFor
 child-row s starts c e q =
     let t = test-passed (ltb c (length starts)) _ Bad (Good e) bad-no-good q in
     let n = number-passed _ _ _ _ bad-no-good (t .1) in
@@ -69,30 +68,30 @@ taken-entry (suc left) i e q = record { some = omega arith; item = q }
 -- ---- the entries from a cursor on
 
 module _ (item : ℕ → Item) where
-  pub run-none : (left at : ℕ) → item at ≡ Bad → run item left at ≡ []
-  unfolding run
+  pub run-none : (left at : ℕ) → item at ≡ Bad → entriesFrom item left at ≡ []
+  unfolding entriesFrom
   run-none zero at q = refl
   run-none (suc left) at q = rw q
 
-  pub run-spent : (left at : ℕ) → left ≤ 0 → run item left at ≡ []
-  unfolding run
+  pub run-spent : (left at : ℕ) → left ≤ 0 → entriesFrom item left at ≡ []
+  unfolding entriesFrom
   run-spent zero at h = refl
   run-spent (suc left) at h = absurd (omega arith)
 
-  pub run-more : (left at : ℕ) (e : Place) → 0 < left → item at ≡ Good e → run item left at ≡ e ∷ run item (left - 1) (e .next)
-  unfolding run
+  pub run-more : (left at : ℕ) (e : Place) → 0 < left → item at ≡ Good e → entriesFrom item left at ≡ e ∷ entriesFrom item (left - 1) (e .next)
+  unfolding entriesFrom
   run-more zero at e h q = absurd (omega arith)
   run-more (suc left) at e h q = let z : suc left - 1 ≡ left = omega arith in rw (q, z)
 
   -- the step that ends them
-  pub run-end : (left at : ℕ) → takenOf left (item at) ≡ Bad → run item left at ≡ []
+  pub run-end : (left at : ℕ) → takenOf left (item at) ≡ Bad → entriesFrom item left at ≡ []
   unfolding takenOf
   run-end zero at q = run-spent 0 at (omega arith)
   run-end (suc left) at q = run-none (suc left) at q
 
   -- behind m of them stand the others
-  pub run-drop : (m left at : ℕ) → run item (left - m) (endOf at (take m (run item left at))) ≡ drop m (run item left at)
-  unfolding endOf run
+  pub run-drop : (m left at : ℕ) → entriesFrom item (left - m) (endOf at (take m (entriesFrom item left at))) ≡ drop m (entriesFrom item left at)
+  unfolding endOf entriesFrom
   run-drop zero left at = let z : left - 0 ≡ left = omega arith in rw z
   run-drop (suc m) zero at = run-spent (0 - suc m) at (omega arith)
   run-drop (suc m) (suc left) at =
@@ -101,13 +100,13 @@ module _ (item : ℕ → Item) where
       (λ e q. let z : suc left - suc m ≡ left - m = omega arith in rw (q, z) (run-drop m left (e .next)))
 
   -- what holds of each
-  pub run-all : (P : Place → Type 0) → ((at : ℕ) (e : Place) → item at ≡ Good e → P e) → (left at : ℕ) → All P (run item left at)
-  unfolding run
+  pub run-all : (P : Place → Type 0) → ((at : ℕ) (e : Place) → item at ≡ Good e → P e) → (left at : ℕ) → All P (entriesFrom item left at)
+  unfolding entriesFrom
   run-all P f zero at = none
   run-all P f (suc left) at =
       onItem (item at)
       (λ q. subst (All P) (sym (run-none (suc left) at q)) none)
-      (λ e q. let z : e ∷ run item left (e .next) ≡ run item (suc left) at = rw q in subst (All P) z (more (f at e q) (run-all P f left (e .next))))
+      (λ e q. let z : e ∷ entriesFrom item left (e .next) ≡ entriesFrom item (suc left) at = rw q in subst (All P) z (more (f at e q) (run-all P f left (e .next))))
 
 pub rows-all : (content : ℕ) (s starts : List ℕ) (k : Kind) (left at : ℕ) → All (Row s) (rowsFrom content s starts k left at)
 rows-all content s starts k left at = run-all (itemFrom content s starts k) (Row s) (row-of content s starts k) left at

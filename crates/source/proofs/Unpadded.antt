@@ -1,5 +1,4 @@
 -- An input that the writer takes is what is written for its entries, one directly behind another.
--- Assumes nothing.
 use mathlib.Core.Path.{_≡_, ap, _∙_}
 use mathlib.Core.Bool.{true, _&&_}
 use mathlib.Core.List.{List, [], _++_, map, flatMap}
@@ -15,7 +14,7 @@ use Rattle.entries.proofs.Padded.{entry-ahead}
 use Rattle.entries.specs.declared.Kind.the-variants.{Listing}
 use Rattle.entries.specs.Rising.{rising}
 use Rattle.entries.specs.Stored.{storedOf, entryBytes, unpadded, storedName}
-use Rattle.source.specs.Source.{run, endOf}
+use Rattle.source.specs.Source.{entriesFrom, endOf}
 use Rattle.source.specs.Input.{placesOf, given, inputRight, allUnpadded}
 
 module _ (s : List ℕ) (bytes : (i : ℕ) → getD s i 0 < 256) (content : ℕ) where
@@ -23,15 +22,15 @@ module _ (s : List ℕ) (bytes : (i : ℕ) → getD s i 0 < 256) (content : ℕ)
   none-behind at h = let l : length s ≤ at = omega arith in drop-of-length-le s l
 
   -- the entries from a place on, where they end with the input
-  run-bytes : (left at : ℕ) → endOf at (run (listingAt content s) left at) ≡ length s → allUnpadded s (run (listingAt content s) left at) ≡ true
-      → drop at s ≡ flatMap (entryBytes Listing) (map (storedOf s) (run (listingAt content s) left at))
-  unfolding run endOf allUnpadded flatMap
+  run-bytes : (left at : ℕ) → endOf at (entriesFrom (listingAt content s) left at) ≡ length s → allUnpadded s (entriesFrom (listingAt content s) left at) ≡ true
+      → drop at s ≡ flatMap (entryBytes Listing) (map (storedOf s) (entriesFrom (listingAt content s) left at))
+  unfolding entriesFrom endOf allUnpadded flatMap
   run-bytes zero at h u = none-behind at h
   run-bytes (suc left) at h u =
       onItem (listingAt content s at)
       (λ q. let k : at ≡ length s = rw q at h in rw q (none-behind at k))
       (λ e q.
-      let es = run (listingAt content s) left (e .next) in
+      let es = entriesFrom (listingAt content s) left (e .next) in
       let v : (unpadded s e && allUnpadded s es) ≡ true = rw q at u in
       let k : endOf (e .next) es ≡ length s = rw q at h in
       let w = and-both (unpadded s e) (allUnpadded s es) v in

@@ -1,5 +1,4 @@
 -- The entries that the writer is given (FORMAT W1, W2).
--- Assumes nothing.
 use Prim.Native.Nat.{ℕ}
 use mathlib.Core.Bool.{Bool, true, _&&_}
 use mathlib.Core.List.{List, [], _∷_, map}
@@ -9,11 +8,11 @@ use Rattle.entries.specs.Entry.{listingAt}
 use Rattle.entries.specs.declared.Place.{Place}
 use Rattle.entries.specs.Rising.{rising}
 use Rattle.entries.specs.Stored.{Stored, storedOf, unpadded, storedName}
-use Rattle.source.specs.Source.{run, endOf}
+use Rattle.source.specs.Source.{entriesFrom, endOf}
 
 -- where they stand: one directly behind another, as far as they are whole and good by E3 to E6
 abbrev pub placesOf : ℕ → List ℕ → List Place
-placesOf content s = run (listingAt content s) (length s) 0
+placesOf content s = entriesFrom (listingAt content s) (length s) 0
 
 -- the entries
 unfoldable pub given : ℕ → List ℕ → List Stored

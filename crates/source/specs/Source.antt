@@ -1,6 +1,5 @@
 -- Where the entries of a level come from. A level of listing chunks takes them from the input, by place; a level of index chunks has one
 -- for each chunk of the level below, by number, with the first name of that chunk (FORMAT W11, T4).
--- Assumes nothing.
 use Prim.Native.Nat.{ℕ, zero, suc, _+_}
 use mathlib.Core.Bool.{cond}
 use mathlib.Core.List.{List, [], _∷_}
@@ -14,8 +13,8 @@ use Rattle.entries.specs.declared.Kind.{Kind}
 use Rattle.entries.specs.declared.Kind.the-variants.{Listing, Index}
 
 -- the entry for chunk c, whose first name has its entry in the input s at place c of `starts`
-unfoldable pub childAt : List ℕ → List ℕ → ℕ → Item
-childAt s starts c =
+unfoldable pub indexEntryFor : List ℕ → List ℕ → ℕ → Item
+indexEntryFor s starts c =
     cond (ltb c (length starts))
     (withNumber (nameAt s (getD starts c 0)) Item.Bad (λ len start.
     Good (record { at = getD starts c 0; start = start; len = len; section = 0; offset = 0; size = 0; child = c; next = c + 1 })))
@@ -24,7 +23,7 @@ childAt s starts c =
 -- the entry at a cursor of a level of a kind
 unfoldable pub itemFrom : ℕ → List ℕ → List ℕ → Kind → ℕ → Item
 itemFrom content s starts Listing at = listingAt content s at
-itemFrom content s starts Index at = childAt s starts at
+itemFrom content s starts Index at = indexEntryFor s starts at
 
 -- what a step hands out of it, where `left` more may be taken
 unfoldable pub takenOf : ℕ → Item → Item
@@ -32,9 +31,9 @@ takenOf zero i = Item.Bad
 takenOf (suc left) i = i
 
 -- the entries from a cursor on, up to the first place where none stands; `left` at most
-unfoldable pub run : (ℕ → Item) → ℕ → ℕ → List Place
-run item zero at = []
-run item (suc left) at = withItem (item at) [] (λ e. e ∷ run item left (e .next))
+unfoldable pub entriesFrom : (ℕ → Item) → ℕ → ℕ → List Place
+entriesFrom item zero at = []
+entriesFrom item (suc left) at = withItem (item at) [] (λ e. e ∷ entriesFrom item left (e .next))
 
 -- where they end
 unfoldable pub endOf : ℕ → List Place → ℕ
@@ -43,4 +42,4 @@ endOf at (e ∷ es) = endOf (e .next) es
 
 -- those of a level
 abbrev pub rowsFrom : ℕ → List ℕ → List ℕ → Kind → ℕ → ℕ → List Place
-rowsFrom content s starts k left at = run (itemFrom content s starts k) left at
+rowsFrom content s starts k left at = entriesFrom (itemFrom content s starts k) left at

@@ -1,6 +1,6 @@
 // The entries that a level of chunks is made of, one at a time.
 ghost use mathlib.Core.Path.{_≡_};
-ghost use Rattle.source.specs.Source.{childAt, itemFrom, takenOf};
+ghost use Rattle.source.specs.Source.{indexEntryFor, itemFrom, takenOf};
 use encint::Number;
 use entries::Item;
 use entries::Kind;
@@ -15,8 +15,8 @@ pub struct Cursor {
 }
 
 // The index entry for chunk c. `starts` has, for each chunk so far, where the entry of its first name stands in the input.
-fn child_at(input: &[u8], starts: &[usize], c: usize) -> Item
-    ensures { λ r. ⌜ r ≡ childAt (now (input .entry)) (now (starts .entry)) c ⌝ }
+fn child_entry(input: &[u8], starts: &[usize], c: usize) -> Item
+    ensures { λ r. ⌜ r ≡ indexEntryFor (now (input .entry)) (now (starts .entry)) c ⌝ }
 {
     if starts.len() <= c {
         return Item::Bad;
@@ -47,6 +47,6 @@ pub fn step(input: &[u8], starts: &[usize], content: u64, from: Cursor) -> Item
     let kind = from.kind;
     match kind {
         Kind::Listing => entries::listing_at(input, from.at, content),
-        Kind::Index => child_at(input, starts, from.at),
+        Kind::Index => child_entry(input, starts, from.at),
     }
 }

@@ -1,5 +1,5 @@
 -- Names that compare equal stand alike to others. This is the only place above the search in a chunk where the tests of names are opened, and of the
--- order only its laws are used. Assumes nothing.
+-- order only its laws are used.
 use mathlib.Core.Path.{_≡_, ap}
 use mathlib.Core.Bool.{true, false}
 use mathlib.Core.List.{List}

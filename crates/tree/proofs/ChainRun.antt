@@ -1,5 +1,4 @@
 -- The run along the chain that counts listing chunks down accepts exactly the chains that are accepted: `chain-run`.
--- Assumes nothing.
 use mathlib.Core.Path.{_≡_, refl, sym, _∙_}
 use mathlib.Core.Bool.{true, not, _&&_, _||_}
 use Prim.Native.Nat.{ℕ, zero, suc, _≤_}

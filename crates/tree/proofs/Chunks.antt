@@ -1,5 +1,4 @@
 -- Chunks below the count: their kind, and that each has a first entry.
--- Assumes nothing.
 use mathlib.Core.Path.{_≡_, refl}
 use mathlib.Core.Bool.{true, false, not}
 use mathlib.Core.List.{List, _∷_}

@@ -1,5 +1,4 @@
 -- Counting the numbers below n that pass a test: a list without repetition of such numbers has all of them exactly if it is as long as they are many.
--- Assumes nothing.
 use mathlib.Core.Path.{_≡_, refl, sym, ap, _∙_}
 use mathlib.Core.Logic.{_≢_, inl, inr}
 use mathlib.Core.Bool.{Bool, true, false, not, _||_}

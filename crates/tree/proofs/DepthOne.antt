@@ -1,5 +1,4 @@
 -- At depth 1, where the header allows one chunk only (FORMAT D16), an accepted chain is a whole tree: no book is refused for its tree there.
--- Assumes nothing.
 use mathlib.Core.Path.{_≡_, subst}
 use mathlib.Core.Bool.{true, false, not, _||_}
 use mathlib.Core.List.{[], _∷_}

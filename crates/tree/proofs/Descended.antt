@@ -1,5 +1,5 @@
 -- The descent in a shaped tree whose entries rise: it ends at the chunk that holds the name, and goes through as many chunks as the level says.
--- A level is written `suc l`. Assumes nothing.
+-- A level is written `suc l`.
 use mathlib.Core.Path.{_≡_, refl, ap, subst}
 use mathlib.Core.Logic.{_⊎_, inl, inr}
 use mathlib.Core.Bool.{Bool, true, false, cond}
@@ -10,12 +10,12 @@ use lib.ListN.{length}
 use Rattle.names.specs.Names.{below, matches}
 use Rattle.names.proofs.Laws.{below-trans}
 use Rattle.chunk.specs.Chunk.{Entry, Parsed, entriesIn}
-use Rattle.seek.specs.Seek.{Sought, lookup, choice, nth}
+use Rattle.seek.specs.Seek.{Sought, entryNamed, choice, nth}
 use Rattle.tree.specs.Lists.{In, Each, allOf}
 use Rattle.tree.specs.Shape.{Shape, isListing, firstName, GoodChunks, indexChunk}
 use Rattle.tree.specs.Tree.{leaves, shaped}
 use Rattle.tree.specs.Descent.{Outcome, found, absent, answer, childFor, onward, outcomeFrom, trailFrom}
-use Rattle.tree.specs.Demand.{Holds}
+use Rattle.tree.specs.Exact.{Holds}
 use Rattle.tree.proofs.Lists.{all-more, all-in, in-flat, flat-in, each-left, each-right, each-apart, each-of}
 use Rattle.tree.proofs.Alike.{equal-self, equal-below, equal-above}
 use Rattle.tree.proofs.Rising.{Before, rising-each, lookup-only, lookup-in, choice-above, choice-in, choice-some}
@@ -64,7 +64,7 @@ module _ (D : ℕ → Parsed) (H : Shape) (good : GoodChunks D H) (name : List �
       → (y : ℕ) (e : Entry) → In y (leaves D (suc l) c) → In e (entriesIn (D y)) → matches name (e .name) ≡ true → outcomeFrom D H name (suc l) c ≡ found y e
   unfolding outcomeFrom leaves flatMap
   reached zero c s r y e (inl q) m k =
-      let o : lookup name (entriesIn (D c)) ≡ Sought.found e = lookup-only name (entriesIn (D c)) (each-left Before (entriesIn (D c)) [] r) e (rw q at m) k in
+      let o : entryNamed name (entriesIn (D c)) ≡ Sought.found e = lookup-only name (entriesIn (D c)) (each-left Before (entriesIn (D c)) [] r) e (rw q at m) k in
       rw (shaped-leaf D H c s, o, q)
   reached zero c s r y e (inr n) m k = absurd n
   reached (suc l) c s r y e n m k =
@@ -84,9 +84,9 @@ module _ (D : ℕ → Parsed) (H : Shape) (good : GoodChunks D H) (name : List �
   unfolding outcomeFrom
   answered zero c s =
       let u = listing-chunk D H c (shaped-leaf D H c s) in
-      rw (shaped-leaf D H c s) (go u (lookup name (entriesIn (D c))) refl)
+      rw (shaped-leaf D H c s) (go u (entryNamed name (entriesIn (D c))) refl)
     where
-      go : (c < H .count) × (isListing (D c) ≡ true) → (o : Sought) → lookup name (entriesIn (D c)) ≡ o → Answered (answer c o)
+      go : (c < H .count) × (isListing (D c) ≡ true) → (o : Sought) → entryNamed name (entriesIn (D c)) ≡ o → Answered (answer c o)
       go u Sought.absent q = inl refl
       go u (Sought.found e) q =
           let k = lookup-in name (entriesIn (D c)) e q in

@@ -1,5 +1,4 @@
 -- A small directory, and some with one slip each: what the checks and the descent come to.
--- Assumes nothing.
 use mathlib.Core.Path.{_≡_, refl}
 use mathlib.Core.Bool.{true, false}
 use mathlib.Core.List.{List, [], _∷_, flatMap}
@@ -12,13 +11,13 @@ use Rattle.names.specs.Order.{byNumber, byElement}
 use Rattle.names.specs.Names.{folded, compared, below, matches}
 use Rattle.entries.specs.Rising.{rising}
 use Rattle.chunk.specs.Chunk.{Entry, Parsed, bad, listing, index, entriesIn, entryName, isGood}
-use Rattle.seek.specs.Seek.{lookup, choice, nth, final}
+use Rattle.seek.specs.Seek.{entryNamed, choice, nth, final}
 use Rattle.tree.specs.Shape.{Shape, listingChunk, indexChunk, GoodChunks}
 use Rattle.tree.specs.Chain.{chainFrom, chain, linked, chainOk}
 use Rattle.tree.specs.Tree.{top, leaves, indexChunks, shaped, treeOk}
-use Rattle.tree.specs.Walk.{chainRun, chainRunOk, walk, treeWalkOk}
+use Rattle.tree.specs.Walk.{chainRun, chainRunOk, walkTree, treeWalkOk}
 use Rattle.tree.specs.Descent.{found, absent, outcomeFrom, trailFrom, outcome, trail}
-use Rattle.tree.specs.Demand.{GoodDirectory}
+use Rattle.tree.specs.Exact.{GoodDirectory}
 
 -- an entry with a name, and a child
 abbrev to : List ℕ → ℕ → Entry
@@ -64,14 +63,14 @@ abbrev header : ℕ → Shape
 header n = record { count = n; depth = 2; root = 2; first = 0; last = 1 }
 
 -- accepted; `/B` is found as `/b`, `/c` is absent at depth 2, `.` is below the first name
-pub accepted :
+pub small-accepted :
     (chainOk (of good) (header 3) ≡ true) × (treeOk (of good) (header 3) ≡ true)
     × (chainRunOk (of good) (header 3) ≡ true) × (treeWalkOk (of good) (header 3) ≡ true)
     × (outcome (of good) (header 3) B ≡ found 1 (entry b)) × (trail (of good) (header 3) B ≡ 2 ∷ 1 ∷ [])
     × (outcome (of good) (header 3) c ≡ absent) × (trail (of good) (header 3) c ≡ 2 ∷ 1 ∷ [])
     × (outcome (of good) (header 3) (0x2E ∷ []) ≡ absent) × (trail (of good) (header 3) (0x2E ∷ []) ≡ 2 ∷ [])
-unfolding flatMap same folded byNumber byElement compared below matches lookup choice nth final listingChunk indexChunk chainFrom chain linked chainOk top leaves indexChunks shaped treeOk chainRun chainRunOk walk treeWalkOk outcomeFrom trailFrom outcome trail
-accepted = (refl, refl, refl, refl, refl, refl, refl, refl, refl, refl)
+unfolding flatMap same folded byNumber byElement compared below matches entryNamed choice nth final listingChunk indexChunk chainFrom chain linked chainOk top leaves indexChunks shaped treeOk chainRun chainRunOk walkTree treeWalkOk outcomeFrom trailFrom outcome trail
+small-accepted = (refl, refl, refl, refl, refl, refl, refl, refl, refl, refl)
 
 -- so there are directories of which demand 3 speaks
 good-chunks : GoodChunks (of good) (header 3)
@@ -97,7 +96,7 @@ good-chunks = record { good = kinds; some = entries; rises = orders }
     orders (suc (suc (suc c))) l = absurd (omega arith)
 
 pub good-directory : GoodDirectory (of good) (header 3)
-good-directory = record { chunks = good-chunks; chain-passes = accepted .0; tree-passes = accepted .1 }
+good-directory = record { chunks = good-chunks; chain-passes = small-accepted .0; tree-passes = small-accepted .1 }
 
 -- a chain with a wrong previous; one that leaves a listing chunk out; names that do not rise across it; a next that is an index chunk
 abbrev wrong-previous : List Parsed
@@ -148,5 +147,5 @@ pub broken-trees :
     × (treeOk (of twice) (header 3) ≡ false) × (treeOk (of left-out) (header 3) ≡ false) × (treeOk (of beside) flat ≡ false)
     × (treeWalkOk (of above) (header 3) ≡ false) × (treeWalkOk (of other-case) (header 3) ≡ false) × (treeWalkOk (of off-tree) (header 4) ≡ false)
     × (treeWalkOk (of twice) (header 3) ≡ false) × (treeWalkOk (of left-out) (header 3) ≡ false) × (treeWalkOk (of beside) flat ≡ false)
-unfolding flatMap same nth listingChunk indexChunk chainFrom chain top leaves indexChunks shaped treeOk walk treeWalkOk
+unfolding flatMap same nth listingChunk indexChunk chainFrom chain top leaves indexChunks shaped treeOk walkTree treeWalkOk
 broken-trees = (refl, refl, refl, refl, refl, refl, refl, refl, refl, refl, refl, refl)

@@ -1,5 +1,4 @@
 -- In a shaped tree the descent that checks no chunk comes to what the descent comes to: `fetch-shaped`.
--- Assumes nothing.
 use mathlib.Core.Path.{_≡_, refl}
 use mathlib.Core.Logic.{inl, inr}
 use mathlib.Core.Bool.{true}

@@ -8,7 +8,7 @@ pub mod Linked
 pub mod ChainRun
 pub mod Shaped
 pub mod Descended
-pub mod Demanded
+pub mod LookupExact
 pub mod DepthOne
 pub mod Once
 pub mod Walked

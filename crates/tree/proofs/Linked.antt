@@ -1,6 +1,5 @@
 -- A chain that is linked: its chunks are listing chunks, none stands on it twice, the names of its entries rise; how many chunks it may have is no limit.
 -- Of the chunks it asks only that listing chunks are filled.
--- Assumes nothing.
 use mathlib.Core.Path.{_≡_, refl, sym, _∙_}
 use mathlib.Core.Logic.{_↔_, inl, inr}
 use mathlib.Core.Bool.{true, false, cond, not, _&&_, _||_}
@@ -20,7 +19,7 @@ use Rattle.seek.specs.Seek.{nth}
 use Rattle.tree.specs.Lists.{In, Each, Distinct, member, everyBelow}
 use Rattle.tree.specs.Shape.{Shape, isListing, previousOf, nextOf, firstName, lastName, listingChunk, GoodChunks}
 use Rattle.tree.specs.Chain.{chainFrom, chain, entriesOf, chainEntries, linked, chainOk}
-use Rattle.tree.specs.Demand.{Listed}
+use Rattle.tree.specs.Exact.{ChainListed}
 use Rattle.tree.proofs.Lists.{first-of, onTest, implied, in-flat, member-in, every-below, each-right, each-apart}
 use Rattle.tree.proofs.Counting.{distinct-bound}
 use Rattle.tree.proofs.Rising.{Before, rising-each, rising-behind, rising-append}
@@ -169,7 +168,7 @@ module _ (D : ℕ → Parsed) (H : Shape) where
 
     -- ---- a chain that is accepted
 
-    pub listed : chainOk D H ≡ true → Listed D H
+    pub listed : chainOk D H ≡ true → ChainListed D H
     unfolding chain chainEntries
     listed passes =
         let l = chain-linked passes in

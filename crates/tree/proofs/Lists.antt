@@ -1,5 +1,4 @@
 -- Laws of the tests and lists that chain, tree and descent share: members, lists put together, pairs of a list.
--- Assumes nothing.
 use mathlib.Core.Path.{_≡_, refl, sym, ap, _∙_}
 use mathlib.Core.Logic.{_⊎_, inl, inr, ⊎-elim}
 use mathlib.Core.Bool.{Bool, true, false, not, _||_}

@@ -1,5 +1,5 @@
 -- In a shaped tree whose leaves are distinct no index chunk stands twice: it has one level, so a second place of it would have its leaves twice.
--- A level is written `suc l`. Assumes nothing.
+-- A level is written `suc l`.
 use mathlib.Core.Path.{_≡_, refl, ap, subst}
 use mathlib.Core.Logic.{_≢_, inl, inr}
 use mathlib.Core.Bool.{true}

@@ -1,5 +1,4 @@
 -- Chunks that pass their own check are what chain and tree ask of chunks: `good-chunks`.
--- Assumes nothing.
 use mathlib.Core.Path.{_≡_, refl}
 use mathlib.Core.Bool.{true}
 use mathlib.Core.List.{List, []}
@@ -11,8 +10,8 @@ use Rattle.entries.specs.declared.Limits.{Limits}
 use Rattle.entries.specs.declared.Kind.{Kind}
 use Rattle.entries.specs.declared.Kind.the-variants.{Listing, Index}
 use Rattle.entries.specs.Rising.{rising}
-use Rattle.chunk.specs.Chunk.{Parsed, bad, listing, index, headOf, countOf, tailOf, parsed, entriesIn, isKind, entryName, isGood}
-use Rattle.chunk.proofs.Accepted.{accepted, entries-count}
+use Rattle.chunk.specs.Chunk.{Parsed, bad, listing, index, firstPlace, entryCount, tailLength, parsed, entriesIn, isKind, entryName, isGood}
+use Rattle.chunk.proofs.Accepted.{chunk-accepted, entries-count}
 use Rattle.tree.specs.Shape.{Shape, GoodChunks}
 
 kind-of : (p : Parsed) → isGood p ≡ true → (k : Kind) × (isKind k p ≡ true)
@@ -24,8 +23,8 @@ parsed-good : (limits : Limits) (s : List ℕ) → isGood (parsed limits s) ≡ 
     → (0 < length (entriesIn (parsed limits s))) × (rising entryName [] (entriesIn (parsed limits s)) ≡ true)
 parsed-good limits s h =
     let k = kind-of (parsed limits s) h in
-    let g = accepted limits (k .0) s (k .1) in
-    let n = entries-count limits (k .0) s (4096 - tailOf s) (countOf s) (headOf (k .0)) (entriesIn (parsed limits s)) (g .entries) in
+    let g = chunk-accepted limits (k .0) s (k .1) in
+    let n = entries-count limits (k .0) s (4096 - tailLength s) (entryCount s) (firstPlace (k .0)) (entriesIn (parsed limits s)) (g .entries) in
     let c = g .some in
     (omega arith, g .rises)
 

@@ -1,5 +1,4 @@
 -- The plain search chunk by chunk, on any directory: what one listing chunk makes of the search from there on.
--- Assumes nothing.
 use mathlib.Core.Path.{_≡_, refl, ap}
 use mathlib.Core.Bool.{Bool, true, false}
 use mathlib.Core.List.{List, [], _∷_, _++_, map}
@@ -9,7 +8,7 @@ use Rattle.fields.proofs.Tests.{never}
 use Rattle.refusals.specs.Refusals.{noChunk}
 use Rattle.names.specs.Names.{matches}
 use Rattle.chunk.specs.Chunk.{Entry, Parsed, entriesIn}
-use Rattle.seek.specs.Seek.{Sought, lookup}
+use Rattle.seek.specs.Seek.{Sought, entryNamed}
 use Rattle.tree.specs.Shape.{Shape, nextOf, listingChunk}
 use Rattle.tree.specs.Descent.{found, absent, refused}
 use Rattle.tree.specs.Reading.{Held, heldAt, readFrom, reading, firstEqual, plain}
@@ -19,16 +18,16 @@ use Rattle.tree.proofs.Lists.{onTest}
 -- ---- the entries of a chunk, and others behind them
 
 module _ (name : List ℕ) (c : ℕ) (hs : List Held) (w : Bool) where
-  equal-here : (es : List Entry) (e : Entry) → lookup name es ≡ Sought.found e → firstEqual name (map (heldAt c) es ++ hs) w ≡ found c e
-  unfolding firstEqual lookup
+  equal-here : (es : List Entry) (e : Entry) → entryNamed name es ≡ Sought.found e → firstEqual name (map (heldAt c) es ++ hs) w ≡ found c e
+  unfolding firstEqual entryNamed
   equal-here [] e q = never (cc)
   equal-here (d ∷ es) e q =
       onTest (matches name (d .name))
       (λ t. rw t (let z : Sought.found d ≡ Sought.found e = rw t at q in let y : d ≡ e = cc in ap (found c) y))
       (λ t. rw t (equal-here es e (rw t at q)))
 
-  equal-behind : (es : List Entry) → lookup name es ≡ Sought.absent → firstEqual name (map (heldAt c) es ++ hs) w ≡ firstEqual name hs w
-  unfolding firstEqual lookup
+  equal-behind : (es : List Entry) → entryNamed name es ≡ Sought.absent → firstEqual name (map (heldAt c) es ++ hs) w ≡ firstEqual name hs w
+  unfolding firstEqual entryNamed
   equal-behind [] q = refl
   equal-behind (d ∷ es) q =
       onTest (matches name (d .name))
@@ -39,11 +38,11 @@ module _ (D : ℕ → Parsed) (H : Shape) (name : List ℕ) where
   -- ---- from chunk c on, which is there
 
   module _ (n c : ℕ) (h : listingChunk D H c ≡ true) where
-    pub from-here : (e : Entry) → lookup name (entriesIn (D c)) ≡ Sought.found e → plainFrom D H name (suc n) c ≡ found c e
+    pub from-here : (e : Entry) → entryNamed name (entriesIn (D c)) ≡ Sought.found e → plainFrom D H name (suc n) c ≡ found c e
     unfolding plainFrom readFrom
     from-here e q = rw h (equal-here name c _ _ (entriesIn (D c)) e q)
 
-    module _ (q : lookup name (entriesIn (D c)) ≡ Sought.absent) where
+    module _ (q : entryNamed name (entriesIn (D c)) ≡ Sought.absent) where
       pub from-end : nextOf (D c) ≡ noChunk → plainFrom D H name (suc n) c ≡ absent
       unfolding plainFrom readFrom firstEqual
       from-end k = rw (h, eq-eqb (nextOf (D c)) noChunk k) (equal-behind name c _ _ (entriesIn (D c)) q)

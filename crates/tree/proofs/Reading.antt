@@ -1,6 +1,5 @@
 -- What is read along a chain that passes: all entries of the directory's listing chunks, to the end (`reading-good`). So the plain search finds what they hold,
--- whatever the index chunks are (`plain-demand`), and on a directory that opening accepts what the descent finds (`plain-same`).
--- Assumes nothing.
+-- whatever the index chunks are (`plain-exact`), and on a directory that opening accepts what the descent finds (`plain-same`).
 use mathlib.Core.Path.{_≡_, refl, sym, ap, _∙_}
 use mathlib.Core.Logic.{_⊎_, inl, inr, ⊎-elim}
 use mathlib.Core.Bool.{Bool, true, false, cond, false≢true}
@@ -18,11 +17,11 @@ use Rattle.tree.specs.Lists.{In}
 use Rattle.tree.specs.Shape.{Shape, nextOf}
 use Rattle.tree.specs.Chain.{chainFrom, chain, linked, chainOk, entriesOf}
 use Rattle.tree.specs.Descent.{found, absent, refused, outcome}
-use Rattle.tree.specs.Demand.{GoodDirectory, Holds, PlainDemand}
+use Rattle.tree.specs.Exact.{GoodDirectory, Holds, PlainExact}
 use Rattle.tree.specs.Reading.{Held, heldAt, heldIn, heldOf, readFrom, reading, firstEqual, plain}
 use Rattle.tree.proofs.Lists.{onTest, in-map, in-flat, flat-in}
 use Rattle.tree.proofs.Linked.{onLink, linked-chunk, chain-linked, chain-chunks}
-use Rattle.tree.proofs.Demanded.{demand-3}
+use Rattle.tree.proofs.LookupExact.{lookup-exact}
 
 -- ---- what is read along a chain that is linked
 
@@ -144,8 +143,8 @@ module _ (D : ℕ → Parsed) (H : Shape) (passes : chainOk D H ≡ true) (name 
       (λ k. inr (k .0 .chunk, k .0 .entry, plain-is ∙ k .3, read-held (k .0) (k .1) (k .2)))
       (equal-found name all-held true)
 
-  pub plain-demand : PlainDemand D H name
-  plain-demand = record {
+  pub plain-exact : PlainExact D H name
+  plain-exact = record {
     found-held = λ c e q. elim settled [
       | inl p ↦ (let z : absent ≡ found c e = sym p ∙ q in never (cc))
       | inr k ↦ (let z : found (k .0) (k .1) ≡ found c e = sym (k .2) ∙ q in
@@ -166,8 +165,8 @@ module _ (D : ℕ → Parsed) (H : Shape) (passes : chainOk D H ≡ true) (name 
 -- where the tree passes too, this is what the descent comes to
 pub plain-same : (D : ℕ → Parsed) (H : Shape) → GoodDirectory D H → (name : List ℕ) → plain D H name ≡ outcome D H name
 plain-same D H a name =
-    let d = demand-3 D H a name in
+    let d = lookup-exact D H a name in
     elim (settled D H (a .chain-passes) name) [
-      | inl p ↦ p ∙ sym (d .absent-iff .1 (plain-demand D H (a .chain-passes) name .absent-iff .0 p))
+      | inl p ↦ p ∙ sym (d .absent-iff .1 (plain-exact D H (a .chain-passes) name .absent-iff .0 p))
       | inr k ↦ k .2 ∙ sym (d .found-iff (k .0) (k .1) .1 (k .3))
     ]

@@ -1,5 +1,4 @@
 -- Entries whose names rise: what `rising` says of any two of them, how lists of them are put together, and what the searches find among them.
--- Assumes nothing.
 use mathlib.Core.Path.{_≡_, refl}
 use mathlib.Core.Logic.{_⊎_, inl, inr, ⊎-elim}
 use mathlib.Core.Bool.{true, false}
@@ -11,7 +10,7 @@ use Rattle.names.proofs.Laws.{below-trans}
 use Rattle.entries.specs.Rising.{rising}
 use Rattle.chunk.specs.Chunk.{Entry, entryName}
 use Rattle.entries.proofs.Rising.{rising-more}
-use Rattle.seek.specs.Seek.{Sought, absent, found, lookup, choice, nth, nameIn, final}
+use Rattle.seek.specs.Seek.{Sought, absent, found, entryNamed, choice, nth, nameIn, final}
 use Rattle.tree.specs.Lists.{In, Each}
 use Rattle.tree.proofs.Lists.{onTest}
 use Rattle.tree.proofs.Alike.{before-equal}
@@ -55,13 +54,13 @@ rising-append last e (d ∷ es) ds h k =
 -- ---- the entry of a name
 
 module _ (name : List ℕ) where
-  pub lookup-only : (es : List Entry) → Each Before es → (e : Entry) → In e es → matches name (e .name) ≡ true → lookup name es ≡ found e
-  unfolding lookup
+  pub lookup-only : (es : List Entry) → Each Before es → (e : Entry) → In e es → matches name (e .name) ≡ true → entryNamed name es ≡ found e
+  unfolding entryNamed
   lookup-only (d ∷ es) r e (inl q) k = rw (← q, k)
   lookup-only (d ∷ es) r e (inr m) k = rw (before-equal name (e .name) k (d .name) (r .0 e m)) (lookup-only es (r .1) e m k)
 
-  pub lookup-in : (es : List Entry) (e : Entry) → lookup name es ≡ found e → In e es × (matches name (e .name) ≡ true)
-  unfolding lookup
+  pub lookup-in : (es : List Entry) (e : Entry) → entryNamed name es ≡ found e → In e es × (matches name (e .name) ≡ true)
+  unfolding entryNamed
   lookup-in [] e h = never (cc)
   lookup-in (d ∷ es) e h =
       onTest (matches name (d .name))

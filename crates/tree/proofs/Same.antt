@@ -1,5 +1,4 @@
 -- Two directories that agree in the chunks of a descent have the same descent: `same-descent`.
--- Assumes nothing.
 use mathlib.Core.Path.{_≡_, refl, ap}
 use mathlib.Core.Logic.{inl, inr}
 use mathlib.Core.Bool.{Bool, true, false, cond}

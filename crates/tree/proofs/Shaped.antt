@@ -1,5 +1,5 @@
 -- A tree that is shaped: its chunks are below the count, its children are shaped, and its first name is that of the first entry under it.
--- A level is written `suc l`: no chunk has level 0. Assumes nothing.
+-- A level is written `suc l`: no chunk has level 0.
 use mathlib.Core.Path.{_≡_, refl, ap, _∙_}
 use mathlib.Core.Logic.{inl, inr}
 use mathlib.Core.Bool.{Bool, true, _&&_}

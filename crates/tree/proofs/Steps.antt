@@ -1,5 +1,5 @@
 -- Chain, walk and descent one step at a time, in the terms that code has at hand: a return or a turn of a loop has its equation here.
--- Levels and counts are plain numbers. Assumes nothing.
+-- Levels and counts are plain numbers.
 use mathlib.Core.Path.{_≡_, refl, ap, _∙_}
 use mathlib.Core.Bool.{true, false, _&&_}
 use mathlib.Core.List.{List, [], _∷_}
@@ -12,12 +12,12 @@ use Rattle.fields.specs.Same.{same}
 use Rattle.refusals.specs.Refusals.{noChunk}
 use Rattle.names.specs.Names.{below}
 use Rattle.chunk.specs.Chunk.{Entry, Parsed, entriesIn}
-use Rattle.seek.specs.Seek.{Sought, soughtOf, childOf, lookup}
+use Rattle.seek.specs.Seek.{Sought, soughtOf, childOf, entryNamed}
 use Rattle.seek.specs.declared.Child.the-variants.{Below, Nowhere}
 use Rattle.seek.specs.declared.Hit.{Hit}
 use Rattle.seek.specs.declared.Hit.the-variants.{At, Nothing}
 use Rattle.tree.specs.Shape.{Shape, previousOf, nextOf, firstName, lastName, listingChunk, indexChunk}
-use Rattle.tree.specs.Walk.{Progress, stopped, going, intoChild, visit, walk, chainRun}
+use Rattle.tree.specs.Walk.{TreeProgress, stopped, going, intoChild, visit, walkTree, chainRun}
 use Rattle.tree.specs.Descent.{found, absent, refused, answer, childFor, onward, outcomeFrom, trailFrom}
 use Rattle.tree.proofs.Lists.{onTest}
 
@@ -53,46 +53,46 @@ module _ (D : ℕ → Parsed) (H : Shape) where
 
   -- ---- the walk: chunk c of level l, with e expected and k index chunks to be met
 
-  pub walk-none : (l c e k : ℕ) → l ≡ 0 → walk D H l c e k ≡ stopped
-  unfolding walk
+  pub walk-none : (l c e k : ℕ) → l ≡ 0 → walkTree D H l c e k ≡ stopped
+  unfolding walkTree
   walk-none l c e k z = rw z
 
   module _ (l c e k : ℕ) (one : l ≡ 1) where
-    pub leaf-not : listingChunk D H c ≡ false → walk D H l c e k ≡ stopped
-    unfolding walk
+    pub leaf-not : listingChunk D H c ≡ false → walkTree D H l c e k ≡ stopped
+    unfolding walkTree
     leaf-not h = rw one (onTest (eqb c e) (λ t. rw (t, h)) (λ t. rw t))
 
-    pub leaf-other : ¬ (c ≡ e) → walk D H l c e k ≡ stopped
-    unfolding walk
+    pub leaf-other : ¬ (c ≡ e) → walkTree D H l c e k ≡ stopped
+    unfolding walkTree
     leaf-other h = rw (one, ne-eqb c e h)
 
-    pub leaf-next : listingChunk D H c ≡ true → c ≡ e → walk D H l c e k ≡ going (nextOf (D c)) k
-    unfolding walk
+    pub leaf-next : listingChunk D H c ≡ true → c ≡ e → walkTree D H l c e k ≡ going (nextOf (D c)) k
+    unfolding walkTree
     leaf-next h q = rw (one, eq-eqb c e q, h)
 
-  pub index-none : (l c e k : ℕ) → 1 < l → k ≡ 0 → walk D H l c e k ≡ stopped
-  unfolding walk
+  pub index-none : (l c e k : ℕ) → 1 < l → k ≡ 0 → walkTree D H l c e k ≡ stopped
+  unfolding walkTree
   index-none zero c e k h z = absurd (omega arith)
   index-none (suc zero) c e k h z = absurd (omega arith)
   index-none (suc (suc l)) c e k h z = rw z
 
-  pub index-not : (l c e k : ℕ) → 1 < l → indexChunk D H c ≡ false → walk D H l c e k ≡ stopped
-  unfolding walk
+  pub index-not : (l c e k : ℕ) → 1 < l → indexChunk D H c ≡ false → walkTree D H l c e k ≡ stopped
+  unfolding walkTree
   index-not zero c e k h z = absurd (omega arith)
   index-not (suc zero) c e k h z = absurd (omega arith)
   index-not (suc (suc l)) c e zero h z = refl
   index-not (suc (suc l)) c e (suc k) h z = rw z
 
   -- where the loop over the entries begins
-  pub index-enter : (l c e k : ℕ) → 1 < l → 0 < k → indexChunk D H c ≡ true → visit (intoChild D (walk D H (l - 1))) (entriesIn (D c)) e (k - 1) ≡ walk D H l c e k
-  unfolding walk
+  pub index-enter : (l c e k : ℕ) → 1 < l → 0 < k → indexChunk D H c ≡ true → visit (intoChild D (walkTree D H (l - 1))) (entriesIn (D c)) e (k - 1) ≡ walkTree D H l c e k
+  unfolding walkTree
   index-enter zero c e k h z t = absurd (omega arith)
   index-enter (suc zero) c e k h z t = absurd (omega arith)
   index-enter (suc (suc l)) c e zero h z t = absurd (omega arith)
   index-enter (suc (suc l)) c e (suc k) h z t = rw (sub-one (suc (suc l)), sub-one (suc k), t)
 
 -- a turn of that loop
-module _ (D : ℕ → Parsed) (f : ℕ → ℕ → ℕ → Progress) (x : Entry) (xs : List Entry) (e k : ℕ) where
+module _ (D : ℕ → Parsed) (f : ℕ → ℕ → ℕ → TreeProgress) (x : Entry) (xs : List Entry) (e k : ℕ) where
   pub visit-other : same (x .name) (firstName (D (x .child))) ≡ false → visit (intoChild D f) (x ∷ xs) e k ≡ stopped
   visit-other h = rw h
 
@@ -115,7 +115,7 @@ module _ (D : ℕ → Parsed) (H : Shape) (name : List ℕ) where
   descent-leaf-not l c z h = rw (z, h)
 
   pub descent-leaf : (l c : ℕ) → l ≡ 1 → listingChunk D H c ≡ true
-      → (outcomeFrom D H name l c ≡ answer c (lookup name (entriesIn (D c)))) × (trailFrom D H name l c ≡ c ∷ [])
+      → (outcomeFrom D H name l c ≡ answer c (entryNamed name (entriesIn (D c)))) × (trailFrom D H name l c ≡ c ∷ [])
   unfolding outcomeFrom trailFrom
   descent-leaf l c z h = (rw (z, h), rw z)
 

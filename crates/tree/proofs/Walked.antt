@@ -1,5 +1,5 @@
 -- The walk over the tree, whose leaves must come along the chain while index chunks are counted down, accepts exactly the trees that are accepted:
--- `tree-walk`. A level is written `suc l`. Assumes nothing.
+-- `tree-walk`. A level is written `suc l`.
 use mathlib.Core.Path.{_≡_, refl, sym, ap, _∙_, subst}
 use mathlib.Core.Logic.{inl, inr}
 use mathlib.Core.Bool.{Bool, true, false, cond, not, _&&_, _||_, false≢true}
@@ -19,7 +19,7 @@ use Rattle.tree.specs.Lists.{In, Distinct, allOf, member, everyBelow}
 use Rattle.tree.specs.Shape.{Shape, isIndex, nextOf, firstName, listingChunk, indexChunk, GoodChunks}
 use Rattle.tree.specs.Chain.{chainFrom, chain, linked, chainOk}
 use Rattle.tree.specs.Tree.{top, leaves, indexChunks, shaped, treeOk}
-use Rattle.tree.specs.Walk.{indexes, chainRunOk, Progress, stopped, going, arrived, intoChild, visit, walk, treeWalkOk}
+use Rattle.tree.specs.Walk.{indexes, chainRunOk, TreeProgress, stopped, going, arrived, intoChild, visit, walkTree, treeWalkOk}
 use Rattle.tree.proofs.Lists.{onTest}
 use Rattle.tree.proofs.Counting.{counted}
 use Rattle.tree.proofs.Chunks.{listing-chunk}
@@ -58,7 +58,7 @@ spend-append [] ys k = refl
 spend-append (x ∷ xs) ys zero = refl
 spend-append (x ∷ xs) ys (suc k) = spend-append xs ys k
 
-abbrev progress : Option ℕ → Option ℕ → Progress
+abbrev progress : Option ℕ → Option ℕ → TreeProgress
 progress none o = stopped
 progress (some e) none = stopped
 progress (some e) (some k) = going e k
@@ -83,12 +83,12 @@ not-arrived (some e) (some k) h = onTest (eqb e noChunk) (λ v. absurd (h (ap {B
 -- ---- what the walk comes to, in the terms of the tree
 
 module _ (D : ℕ → Parsed) (H : Shape) where
-  abbrev walkIs : Bool → List ℕ → List ℕ → ℕ → ℕ → Progress
+  abbrev walkIs : Bool → List ℕ → List ℕ → ℕ → ℕ → TreeProgress
   walkIs good ls is e k = cond good (progress (follow D ls e) (spend is k)) stopped
 
-  visit-is : (l : ℕ) → ((c e k : ℕ) → walk D H (suc l) c e k ≡ walkIs (shaped D H (suc l) c) (leaves D (suc l) c) (indexChunks D (suc l) c) e k)
+  visit-is : (l : ℕ) → ((c e k : ℕ) → walkTree D H (suc l) c e k ≡ walkIs (shaped D H (suc l) c) (leaves D (suc l) c) (indexChunks D (suc l) c) e k)
       → (xs : List Entry) (e k : ℕ)
-      → visit (intoChild D (walk D H (suc l))) xs e k
+      → visit (intoChild D (walkTree D H (suc l))) xs e k
       ≡ walkIs (allOf (childOk D H l) xs) (flatMap (λ x. leaves D (suc l) (x .child)) xs) (flatMap (λ x. indexChunks D (suc l) (x .child)) xs) e k
   unfolding flatMap
   visit-is l ih [] e k = refl
@@ -109,8 +109,8 @@ module _ (D : ℕ → Parsed) (H : Shape) where
       (λ v. rw (u, ih c e k, v)))
       (λ u. rw u)
 
-  walk-is : (l c e k : ℕ) → walk D H (suc l) c e k ≡ walkIs (shaped D H (suc l) c) (leaves D (suc l) c) (indexChunks D (suc l) c) e k
-  unfolding walk shaped leaves indexChunks
+  walk-is : (l c e k : ℕ) → walkTree D H (suc l) c e k ≡ walkIs (shaped D H (suc l) c) (leaves D (suc l) c) (indexChunks D (suc l) c) e k
+  unfolding walkTree shaped leaves indexChunks
   walk-is zero c e k = onTest (listingChunk D H c) (λ u. onTest (eqb c e) (λ v. rw (u, v)) (λ v. rw (u, v))) (λ u. onTest (eqb c e) (λ v. rw (u, v)) (λ v. rw (u, v)))
   walk-is (suc l) c e zero =
       onTest (indexChunk D H c && allOf (childOk D H l) (entriesIn (D c)))
@@ -192,7 +192,7 @@ module _ (D : ℕ → Parsed) (H : Shape) where
       -- the two checks at a level
       abbrev Same : ℕ → Type 0
       Same d =
-          arrived (walk D H d (top H) (H .first) (indexes D H))
+          arrived (walkTree D H d (top H) (H .first) (indexes D H))
           ≡ (shaped D H d (top H)
           && (same (leaves D d (top H)) (chain D H)
           && everyBelow (H .count) (λ c. not (isIndex (D c)) || member c (indexChunks D d (top H)))))
@@ -205,7 +205,7 @@ module _ (D : ℕ → Parsed) (H : Shape) where
           (λ s. rw s))
 
       walk-level : (d : ℕ) → Same d
-      unfolding walk shaped
+      unfolding walkTree shaped
       walk-level zero = refl
       walk-level (suc h) = walk-same h
 

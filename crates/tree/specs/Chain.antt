@@ -1,5 +1,4 @@
 -- The chain of listing chunks (FORMAT, Chain): refusal 13 where `chainOk` fails.
--- Assumes nothing.
 use mathlib.Core.Bool.{Bool, false, cond, not, _&&_, _||_}
 use mathlib.Core.List.{List, [], _∷_, flatMap}
 use Prim.Native.Nat.{ℕ, zero, suc}

@@ -1,10 +1,9 @@
 -- The descent for a name on any directory (FORMAT, Descent): its outcome, and the chunks that it goes through.
--- Assumes nothing.
 use mathlib.Core.Bool.{cond}
 use mathlib.Core.List.{List, [], _∷_}
 use Prim.Native.Nat.{ℕ, zero, suc}
 use Rattle.chunk.specs.Chunk.{Entry, Parsed, entriesIn}
-use Rattle.seek.specs.Seek.{Sought, lookup, choice}
+use Rattle.seek.specs.Seek.{Sought, entryNamed, choice}
 use Rattle.tree.specs.Shape.{Shape, listingChunk, indexChunk}
 use Rattle.tree.specs.Tree.{top}
 
@@ -32,7 +31,7 @@ module _ (D : ℕ → Parsed) (H : Shape) (name : List ℕ) where
   -- from chunk c of a level
   unfoldable pub outcomeFrom : ℕ → ℕ → Outcome
   outcomeFrom zero c = refused
-  outcomeFrom (suc zero) c = cond (listingChunk D H c) (answer c (lookup name (entriesIn (D c)))) refused
+  outcomeFrom (suc zero) c = cond (listingChunk D H c) (answer c (entryNamed name (entriesIn (D c)))) refused
   outcomeFrom (suc (suc l)) c = cond (indexChunk D H c) (onward (childFor name (D c)) absent (λ k. outcomeFrom (suc l) k)) refused
 
   -- the chunks, that at which it starts and each child that it takes (Q6); a chunk that is refused is the last

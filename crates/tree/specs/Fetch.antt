@@ -1,5 +1,4 @@
 -- The descent for a name over the bytes of chunks that nobody checks (K22): on any bytes, what the searches in one chunk make of them.
--- Assumes nothing.
 use mathlib.Core.List.{List}
 use Prim.Native.Nat.{ℕ, zero, suc}
 use Rattle.names.specs.Names.{compared}

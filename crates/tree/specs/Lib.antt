@@ -6,4 +6,4 @@ pub mod Descent
 pub mod Reading
 pub mod Fetch
 pub mod Walk
-pub mod Demand
+pub mod Exact

@@ -1,6 +1,5 @@
 -- What is read along the chain of any directory, with no index entry followed (FORMAT K16 to K19): the entries of one listing chunk behind those of
 -- another, up to a chunk with no next, or up to a chunk that cannot be read.
--- Assumes nothing.
 use mathlib.Core.Bool.{Bool, true, false, cond}
 use mathlib.Core.List.{List, [], _∷_, _++_, map, flatMap}
 use Prim.Native.Nat.{ℕ, zero, suc}
@@ -32,8 +31,8 @@ abbrev pub cut : Reading
 cut = record { entries = []; whole = false }
 
 -- the entries of a chunk, and what is read behind them
-abbrev pub andThen : List Held → Reading → Reading
-andThen hs r = record { entries = hs ++ r .entries; whole = r .whole }
+abbrev pub readThen : List Held → Reading → Reading
+readThen hs r = record { entries = hs ++ r .entries; whole = r .whole }
 
 abbrev pub heldIn : (ℕ → Parsed) → ℕ → List Held
 heldIn D c = map (heldAt c) (entriesIn (D c))
@@ -43,7 +42,7 @@ module _ (D : ℕ → Parsed) (H : Shape) where
   unfoldable pub readFrom : ℕ → ℕ → Reading
   readFrom zero c = cut
   readFrom (suc n) c =
-      cond (listingChunk D H c) (andThen (heldIn D c) (cond (eqb (nextOf (D c)) noChunk) ended (readFrom n (nextOf (D c))))) cut
+      cond (listingChunk D H c) (readThen (heldIn D c) (cond (eqb (nextOf (D c)) noChunk) ended (readFrom n (nextOf (D c))))) cut
 
   -- from the first listing chunk on, no more chunks than the directory counts (K19)
   unfoldable pub reading : Reading

@@ -1,5 +1,4 @@
 -- A directory above its bytes: D gives each chunk number the meaning of that chunk, H has what the directory's header says of chain and tree.
--- Assumes nothing.
 use mathlib.Core.Path.{_≡_}
 use mathlib.Core.Bool.{Bool, true, _&&_}
 use mathlib.Core.List.{List, []}

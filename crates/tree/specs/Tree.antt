@@ -1,5 +1,4 @@
 -- The tree of index chunks over the chain (FORMAT, Tree): refusal 14 where `treeOk` fails. Listing chunks have level 1.
--- Assumes nothing.
 use mathlib.Core.Bool.{Bool, false, cond, not, _&&_, _||_}
 use mathlib.Core.List.{List, [], _∷_, flatMap}
 use Prim.Native.Nat.{ℕ, zero, suc}

@@ -1,7 +1,6 @@
 -- Chain and tree as code with no heap checks them: by counting down, and by a walk over the leaves along the chain.
 -- The laws `chain-run` and `tree-walk` of proofs/ say that these accept exactly what `chainOk` and `treeOk` accept. And the plain search as a loop takes it,
 -- chunk by chunk: `plain-whole`.
--- Assumes nothing.
 use mathlib.Core.Bool.{Bool, false, cond, _&&_}
 use mathlib.Core.List.{List, [], _∷_}
 use Prim.Native.Nat.{ℕ, zero, suc}
@@ -46,39 +45,39 @@ module _ (D : ℕ → Parsed) (H : Shape) where
 -- ---- the tree: a function that calls itself for each child
 
 -- the listing chunk that must come next, and how many index chunks are yet to be met
-pub data Progress : Type 0 where
-  stopped : Progress
-  going : ℕ → ℕ → Progress
+pub data TreeProgress : Type 0 where
+  stopped : TreeProgress
+  going : ℕ → ℕ → TreeProgress
 
-abbrev pub andThen : Progress → (ℕ → ℕ → Progress) → Progress
-andThen stopped f = stopped
-andThen (going expected left) f = f expected left
+abbrev pub walkThen : TreeProgress → (ℕ → ℕ → TreeProgress) → TreeProgress
+walkThen stopped f = stopped
+walkThen (going expected left) f = f expected left
 
 -- the whole chain was met, and all index chunks
-abbrev pub arrived : Progress → Bool
+abbrev pub arrived : TreeProgress → Bool
 arrived stopped = false
 arrived (going expected left) = eqb expected noChunk && eqb left 0
 
 -- f of the child of an entry, which must have the entry's name for its first
-abbrev pub intoChild : (ℕ → Parsed) → (ℕ → ℕ → ℕ → Progress) → Entry → ℕ → ℕ → Progress
+abbrev pub intoChild : (ℕ → Parsed) → (ℕ → ℕ → ℕ → TreeProgress) → Entry → ℕ → ℕ → TreeProgress
 intoChild D f x expected left = cond (same (x .name) (firstName (D (x .child)))) (f (x .child) expected left) stopped
 
 -- one entry after another, up to one that stops the walk
-abbrev pub visit : (Entry → ℕ → ℕ → Progress) → List Entry → ℕ → ℕ → Progress
+abbrev pub visit : (Entry → ℕ → ℕ → TreeProgress) → List Entry → ℕ → ℕ → TreeProgress
 visit step [] expected left = going expected left
-visit step (x ∷ xs) expected left = andThen (step x expected left) (λ e k. visit step xs e k)
+visit step (x ∷ xs) expected left = walkThen (step x expected left) (λ e k. visit step xs e k)
 
 module _ (D : ℕ → Parsed) (H : Shape) where
   -- chunk c of a level
-  unfoldable pub walk : ℕ → ℕ → ℕ → ℕ → Progress
-  walk zero c expected left = stopped
-  walk (suc zero) c expected left = cond (eqb c expected && listingChunk D H c) (going (nextOf (D c)) left) stopped
-  walk (suc (suc l)) c expected zero = stopped
-  walk (suc (suc l)) c expected (suc left) =
-      cond (indexChunk D H c) (visit (intoChild D (λ x e k. walk (suc l) x e k)) (entriesIn (D c)) expected left) stopped
+  unfoldable pub walkTree : ℕ → ℕ → ℕ → ℕ → TreeProgress
+  walkTree zero c expected left = stopped
+  walkTree (suc zero) c expected left = cond (eqb c expected && listingChunk D H c) (going (nextOf (D c)) left) stopped
+  walkTree (suc (suc l)) c expected zero = stopped
+  walkTree (suc (suc l)) c expected (suc left) =
+      cond (indexChunk D H c) (visit (intoChild D (λ x e k. walkTree (suc l) x e k)) (entriesIn (D c)) expected left) stopped
 
   unfoldable pub treeWalkOk : Bool
-  treeWalkOk = arrived (walk (H .depth) (top H) (H .first) (indexes D H))
+  treeWalkOk = arrived (walkTree (H .depth) (top H) (H .first) (indexes D H))
 
 -- ---- the plain search from chunk c on, n chunks at most
 

@@ -1,5 +1,4 @@
 -- What comes next at a walk, by its cases: one law for each.
--- Assumes nothing.
 use mathlib.Core.Path.{_≡_, _∙_}
 use mathlib.Core.Bool.{true, false}
 use mathlib.Core.List.{List}
@@ -14,7 +13,7 @@ use Rattle.entries.specs.declared.Item.the-variants.{Good, Bad}
 use Rattle.entries.specs.declared.Kind.the-variants.{Listing}
 use Rattle.header.specs.declared.Record.{Record}
 use Rattle.tree.specs.Shape.{listingChunk}
-use Rattle.book.specs.Book.{limitsOf, chunkBytes, directoryOf, shapeOf, bookFits}
+use Rattle.book.specs.Book.{limitsOf, chunkBytes, directoryOf, shapeOf, recordFits}
 use Rattle.walk.specs.Walk.{inChunk, isOver, onEntered, entered, entryHere, comingAt}
 use Rattle.walk.specs.declared.Walk.{Walk}
 use Rattle.walk.specs.declared.Entered.{Entered}
@@ -57,15 +56,15 @@ module _ (s : List ℕ) (book : Record) (w : Walk) where
 
   -- ---- the peek
 
-  pub peek-unfit : bookFits s book ≡ false → comingAt s book w ≡ Refused (refusalOf 17)
+  pub peek-unfit : recordFits s book ≡ false → comingAt s book w ≡ Refused (refusalOf 17)
   unfolding comingAt
   peek-unfit f = rw f
 
-  pub peek-entered : bookFits s book ≡ true → (x : Entered) → entered s book w ≡ x → comingAt s book w ≡ onEntered (entryHere s book) x
+  pub peek-entered : recordFits s book ≡ true → (x : Entered) → entered s book w ≡ x → comingAt s book w ≡ onEntered (entryHere s book) x
   unfolding comingAt
   peek-entered f x e = rw (f, e)
 
   -- inside a chunk: the entry at its place, and the walk as it is
-  pub peek-here : bookFits s book ≡ true → (e : Place) → 0 < w .left → itemAt (limitsOf s book) Listing (chunkBytes s book (w .chunk)) (w .at) ≡ Good e
+  pub peek-here : recordFits s book ≡ true → (e : Place) → 0 < w .left → itemAt (limitsOf s book) Listing (chunkBytes s book (w .chunk)) (w .at) ≡ Good e
       → comingAt s book w ≡ Entry e w
   peek-here f e l h = peek-entered f (Inside w) (enter-inside l) ∙ here-entry e h

@@ -1,5 +1,4 @@
 -- A walk ends: behind an entry that comes next it has fewer entries to come to than before.
--- Assumes nothing.
 use mathlib.Core.Path.{_≡_, refl, subst}
 use mathlib.Core.Bool.{_&&_}
 use mathlib.Core.List.{List}
@@ -18,7 +17,7 @@ use Rattle.header.specs.declared.Record.{Record}
 use Rattle.tree.specs.Shape.{listingChunk}
 use Rattle.tree.proofs.Lists.{onTest}
 use Rattle.tree.proofs.Chunks.{listing-chunk}
-use Rattle.book.specs.Book.{limitsOf, chunkBytes, directoryOf, shapeOf, bookFits}
+use Rattle.book.specs.Book.{limitsOf, chunkBytes, directoryOf, shapeOf, recordFits}
 use Rattle.book.proofs.Read.{entries-some, entries-few}
 use Rattle.walk.specs.Walk.{inChunk, afterOf, weight, isOver, onEntered, entered, entryHere, comingAt}
 use Rattle.walk.specs.declared.Walk.{Walk}
@@ -65,7 +64,7 @@ module _ (s : List ℕ) (book : Record) where
   peek-fell : (w v : Walk) (e : Place) → comingAt s book w ≡ Entry e v → Fell w v
   unfolding comingAt
   peek-fell w v e =
-      onTest (bookFits s book)
+      onTest (recordFits s book)
       (λ f. rw f (go (entered s book w) refl))
       (λ f. rw f (λ h. absurd (let z : _≡_ {A = ℕ} 0 1 = cc in omega arith)))
     where

@@ -1,5 +1,4 @@
 -- What a walk reads from its start is what stands along the chain of its book, whatever the bytes and the record are: `walk-exact`.
--- Assumes nothing.
 use mathlib.Core.Path.{_≡_, refl, sym, subst, _∙_}
 use mathlib.Core.Bool.{Bool, true, false, cond}
 use mathlib.Core.List.{List, [], _∷_, _++_, map}
@@ -16,14 +15,14 @@ use Rattle.entries.specs.declared.Place.{Place}
 use Rattle.entries.specs.declared.Item.the-variants.{Good}
 use Rattle.entries.proofs.Laws.{item-inside}
 use Rattle.entries.specs.declared.Kind.the-variants.{Listing}
-use Rattle.chunk.specs.Chunk.{Entry, all, entryOf, entriesAt, tailOf, entriesIn}
+use Rattle.chunk.specs.Chunk.{Entry, all, entryOf, entriesAt, tailLength, entriesIn}
 use Rattle.chunk.proofs.Accepted.{entries-more, entries-none}
 use Rattle.header.specs.declared.Record.{Record}
 use Rattle.tree.specs.Shape.{isListing, nextOf, listingChunk}
-use Rattle.tree.specs.Reading.{Held, heldAt, Reading, ended, cut, andThen, heldIn, readFrom, reading}
+use Rattle.tree.specs.Reading.{Held, heldAt, Reading, ended, cut, readThen, heldIn, readFrom, reading}
 use Rattle.tree.proofs.Lists.{onTest}
 use Rattle.tree.proofs.Chunks.{listing-chunk}
-use Rattle.book.specs.Book.{limitsOf, chunkBytes, directoryOf, shapeOf, bookFits}
+use Rattle.book.specs.Book.{limitsOf, chunkBytes, directoryOf, shapeOf, recordFits}
 use Rattle.book.proofs.Read.{entries-some, entries-read, read-reported, read-owned}
 use Rattle.walk.specs.Walk.{walkStart, inChunk, afterOf, isOver, comingAt, nameHere}
 use Rattle.walk.specs.Exact.{readingOf, Comes, Reads, WalkExact}
@@ -39,7 +38,7 @@ module _ (s : List ℕ) (book : Record) where
   moved w v [] whole q r = q ∙ r
   moved w v (h ∷ hs) whole q (u, e, k, r) = (u, e, record { next = q ∙ k .next; still = k .still; held = k .held; name = k .name; report = k .report; own = k .own }, r)
 
-  module _ (fits : bookFits s book ≡ true) where
+  module _ (fits : recordFits s book ≡ true) where
     -- ---- inside a chunk
 
     comes : (w : Walk) (p : Place) → 0 < w .left → isListing (directoryOf s book (w .chunk)) ≡ true
@@ -61,14 +60,14 @@ module _ (s : List ℕ) (book : Record) where
     -- the entries of its chunk, and then what is read behind it
     module _ (hs : List Held) (whole : Bool) (x n : ℕ) (behind-all : (v : Walk) → v .left ≡ 0 → v .next ≡ x → v .more ≡ n → Reads s book v hs whole) where
       inside : (l : ℕ) (w : Walk) (es : List Entry) → w .left ≡ l → w .next ≡ x → w .more ≡ n → isListing (directoryOf s book (w .chunk)) ≡ true
-          → entriesAt (limitsOf s book) Listing (chunkBytes s book (w .chunk)) (4096 - tailOf (chunkBytes s book (w .chunk))) l (w .at) ≡ all es
+          → entriesAt (limitsOf s book) Listing (chunkBytes s book (w .chunk)) (4096 - tailLength (chunkBytes s book (w .chunk))) l (w .at) ≡ all es
           → Reads s book w (map (heldAt (w .chunk)) es ++ hs) whole
       unfolding Reads afterOf
       inside zero w es l k m is e =
-          let z = entries-none (limitsOf s book) Listing (chunkBytes s book (w .chunk)) (4096 - tailOf (chunkBytes s book (w .chunk))) (w .at) es e in
+          let z = entries-none (limitsOf s book) Listing (chunkBytes s book (w .chunk)) (4096 - tailLength (chunkBytes s book (w .chunk))) (w .at) es e in
           subst (λ (xs : List Entry). Reads s book w (map (heldAt (w .chunk)) xs ++ hs) whole) (sym z) (behind-all w l k m)
       inside (suc l) w es q k m is e =
-          let r = entries-more (limitsOf s book) Listing (chunkBytes s book (w .chunk)) (4096 - tailOf (chunkBytes s book (w .chunk))) l (w .at) es e in
+          let r = entries-more (limitsOf s book) Listing (chunkBytes s book (w .chunk)) (4096 - tailLength (chunkBytes s book (w .chunk))) l (w .at) es e in
           let p = r .0 in
           let more : Reads s book (afterOf w p) (map (heldAt (w .chunk)) (r .1) ++ hs) whole = inside l (afterOf w p) (r .1) (omega arith) k m is (r .4) in
           subst (λ (xs : List Entry). Reads s book w (map (heldAt (w .chunk)) xs ++ hs) whole) (sym (r .3))
@@ -105,7 +104,7 @@ module _ (s : List ℕ) (book : Record) where
     read-chunk : (n : ℕ) (w : Walk) → w .left ≡ 0 → isOver book w ≡ false → w .more ≡ suc n → listingChunk (directoryOf s book) (shapeOf book) (w .next) ≡ true
         → let r : Reading = cond (eqb (nextOf (directoryOf s book (w .next))) noChunk) ended (readFrom (directoryOf s book) (shapeOf book) n (nextOf (directoryOf s book (w .next)))) in
         ((v : Walk) → v .left ≡ 0 → v .next ≡ nextOf (directoryOf s book (w .next)) → v .more ≡ n → ReadsAll v r)
-        → ReadsAll w (andThen (heldIn (directoryOf s book) (w .next)) r)
+        → ReadsAll w (readThen (heldIn (directoryOf s book) (w .next)) r)
     read-chunk n w l o m b more =
         let c = w .next in
         let is = listing-chunk (directoryOf s book) (shapeOf book) c b .1 in
@@ -130,26 +129,26 @@ module _ (s : List ℕ) (book : Record) where
         (λ b.
         let x = nextOf (directoryOf s book (w .next)) in
         let r : Reading = cond (eqb x noChunk) ended (readFrom (directoryOf s book) (shapeOf book) n x) in
-        let q : behind w ≡ andThen (heldIn (directoryOf s book) (w .next)) r = rw (o, m, b) in
+        let q : behind w ≡ readThen (heldIn (directoryOf s book) (w .next)) r = rw (o, m, b) in
         subst (ReadsAll w) (sym q)
         (read-chunk n w l o m b (λ v lv e k. subst (ReadsAll v) (behind-is v x n e k (omega arith)) (read-on n v lv k (omega arith)))))
         (λ b. let q : behind w ≡ cut = rw (o, m, b) in subst (ReadsAll w) (sym q) (read-barred w l o b)))
 
-  unread : bookFits s book ≡ false → Reads s book (walkStart book) [] false
+  unread : recordFits s book ≡ false → Reads s book (walkStart book) [] false
   unfolding Reads
   unread f = peek-unfit s book (walkStart book) f
 
-  start-behind : (f : bookFits s book ≡ true) → behind f (walkStart book) ≡ reading (directoryOf s book) (shapeOf book)
+  start-behind : (f : recordFits s book ≡ true) → behind f (walkStart book) ≡ reading (directoryOf s book) (shapeOf book)
   unfolding reading walkStart isOver
   start-behind f = rw (le-ltb (book .count) (book .count) (omega arith), and-no (eqb (book .first) noChunk))
 
-  start-reads : (f : bookFits s book ≡ true) → Reads s book (walkStart book) (behind f (walkStart book) .entries) (behind f (walkStart book) .whole)
+  start-reads : (f : recordFits s book ≡ true) → Reads s book (walkStart book) (behind f (walkStart book) .entries) (behind f (walkStart book) .whole)
   unfolding walkStart
   start-reads f = read-on f (book .count) (walkStart book) refl refl (omega arith)
 
   pub walk-exact : WalkExact s book (walkStart book)
   unfolding readingOf
   walk-exact =
-      onTest (bookFits s book)
+      onTest (recordFits s book)
       (λ f. rw (f, ← start-behind f) (start-reads f))
       (λ f. rw f (unread f))

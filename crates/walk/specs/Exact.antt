@@ -1,5 +1,4 @@
 -- What a walk reads: entry after entry, then the end or a refusal. From its start it reads along the chain.
--- Assumes nothing.
 use Prim.Native.Nat.{ℕ}
 use mathlib.Core.Path.{_≡_}
 use mathlib.Core.Bool.{Bool, cond}
@@ -9,14 +8,14 @@ use Rattle.entries.specs.declared.Place.{Place}
 use Rattle.chunk.specs.Chunk.{entryOf}
 use Rattle.header.specs.declared.Record.{Record}
 use Rattle.tree.specs.Reading.{Held, heldAt, Reading, cut, reading}
-use Rattle.book.specs.Book.{chunkBytes, directoryOf, shapeOf, bookFits, reportOf, reportAt, ownOf, ownAt}
+use Rattle.book.specs.Book.{chunkBytes, directoryOf, shapeOf, recordFits, reportOf, reportAt, ownOf, ownAt}
 use Rattle.walk.specs.Walk.{afterOf, comingAt, nameHere}
 use Rattle.walk.specs.declared.Walk.{Walk}
 use Rattle.walk.specs.declared.Coming.the-variants.{Entry, End, Refused}
 
 -- what is read along the chain of a book by its record; nothing by a record that cannot be asked
 unfoldable pub readingOf : List ℕ → Record → Reading
-readingOf s book = cond (bookFits s book) (reading (directoryOf s book) (shapeOf book)) cut
+readingOf s book = cond (recordFits s book) (reading (directoryOf s book) (shapeOf book)) cut
 
 module _ (s : List ℕ) (book : Record) where
   -- h comes next at w: it is the entry e, and v is the walk inside its chunk, where it still comes next

@@ -1,5 +1,4 @@
 -- A walk along the chain of a book, by value: what comes next at any walk, over any bytes, by any record.
--- Assumes nothing.
 use Prim.Native.Nat.{ℕ, _+_, _-_, _*_}
 use mathlib.Core.Bool.{Bool, cond, _&&_}
 use mathlib.Core.List.{List}
@@ -11,10 +10,10 @@ use Rattle.refusals.specs.declared.Refusal.{Refusal}
 use Rattle.entries.specs.Entry.{itemAt, withItem}
 use Rattle.entries.specs.declared.Place.{Place}
 use Rattle.entries.specs.declared.Kind.the-variants.{Listing}
-use Rattle.chunk.specs.Chunk.{Parsed, entriesIn, headOf}
+use Rattle.chunk.specs.Chunk.{Parsed, entriesIn, firstPlace}
 use Rattle.header.specs.declared.Record.{Record}
 use Rattle.tree.specs.Shape.{nextOf, listingChunk}
-use Rattle.book.specs.Book.{limitsOf, chunkBytes, directoryOf, shapeOf, bookFits}
+use Rattle.book.specs.Book.{limitsOf, chunkBytes, directoryOf, shapeOf, recordFits}
 use Rattle.walk.specs.declared.Walk.{Walk}
 use Rattle.walk.specs.declared.Entered.{Entered}
 use Rattle.walk.specs.declared.Entered.the-variants.{Inside, Over, Barred}
@@ -27,7 +26,7 @@ walkStart book = record { chunk = noChunk; at = 0; left = 0; next = book .first;
 
 -- before the first entry of chunk c, which is p; n more chunks may be entered behind it
 abbrev pub inChunk : ℕ → Parsed → ℕ → Walk
-inChunk c p n = record { chunk = c; at = headOf Listing; left = length (entriesIn p); next = nextOf p; more = n }
+inChunk c p n = record { chunk = c; at = firstPlace Listing; left = length (entriesIn p); next = nextOf p; more = n }
 
 -- behind the entry e of its chunk
 unfoldable pub afterOf : Walk → Place → Walk
@@ -64,7 +63,7 @@ module _ (s : List ℕ) (book : Record) where
 
   -- what comes next: the record first (K12)
   unfoldable pub comingAt : Walk → Coming
-  comingAt w = cond (bookFits s book) (onEntered entryHere (entered w)) (Refused (refusalOf 17))
+  comingAt w = cond (recordFits s book) (onEntered entryHere (entered w)) (Refused (refusalOf 17))
 
   -- the name of an entry in the chunk of a walk; no bytes where it does not lie inside
   unfoldable pub nameHere : Walk → Place → List ℕ

@@ -66,7 +66,7 @@ fn enter(w: Walk, file: &[u8], book: Record) -> Entered
     if w.more < 1 {
         return Entered::Barred;
     }
-    let next = match book::met(file, book, w.next) {
+    let next = match book::checked_chunk(file, book, w.next) {
         Chunk::Listing(_, next) => next as u64,
         Chunk::Index => return Entered::Barred,
         Chunk::Refused(_) => return Entered::Barred,
@@ -113,7 +113,7 @@ impl Walk {
     pub fn peek(self, file: &[u8], book: Record) -> Coming
         ensures { λ r. ⌜ r ≡ comingAt (now (file .entry)) book self ⌝ }
     {
-        if !book::fits(file, book) {
+        if !book::record_fits(file, book) {
             return Coming::Refused(no_reading());
         }
         match enter(self, file, book) {

@@ -1,5 +1,4 @@
 -- The whole head, from its parts (`head-written`), and the writer's answers.
--- Assumes nothing.
 use mathlib.Core.Path.{_≡_, refl, sym, ap, subst, _∙_}
 use mathlib.Core.Bool.{Bool, true, false, _&&_}
 use mathlib.Core.List.{List, [], _++_, map, flatten, append-assoc}
@@ -22,13 +21,13 @@ use Rattle.pack.specs.Starts.{chunksFrom}
 use Rattle.pack.proofs.Levels.{chunks-given}
 use Rattle.compose.proofs.Words.{three}
 use Rattle.layout.specs.Headers.{headLength, fileHeader, sectionZero, directoryHeader}
-use Rattle.layout.specs.Layout.{takes, Layout, layoutOver, layoutOf, layoutFor, chunkCount, depthOf, smallEnough, rootOf, chunksOf, chunkList, headBytes}
+use Rattle.layout.specs.Layout.{takes, Layout, layoutOver, layoutOf, layoutFor, chunkCount, layoutDepth, smallEnough, newRoot, chunksOf, chunkList, headBytes}
 use Rattle.layout.proofs.Small.{small-is}
 use Rattle.layout.proofs.Cut.{Cut, takes-told}
 use Rattle.roundtrip.specs.RoundTrip.{newBook, RoundTrip}
 use Rattle.roundtrip.proofs.RoundTrips.{round-trip}
-use Rattle.writer.specs.Head.{written, outputFor, Worth, ShortInput}
-use Rattle.writer.specs.Plan.{limits, Made, LevelFits, IndexFits, indexOf, headersOf, Ready}
+use Rattle.writer.specs.Head.{written, outputFor, RoundTripFor, ShortInput}
+use Rattle.writer.specs.Plan.{inBounds, LevelsPlanned, LevelFits, IndexFits, indexOf, headersOf, Ready}
 use Rattle.writer.specs.declared.Written.{Written}
 use Rattle.writer.specs.declared.Written.the-variants.{Length, Refused}
 use Rattle.layout.proofs.Sizes.{length-file, length-section, length-directory}
@@ -42,8 +41,8 @@ unfolding headersOf
 length-headers density time language content m depth count =
     let a = fileHeader time language count in
     let b = sectionZero (headLength count + content) in
-    let d = directoryHeader language density depth (rootOf depth count) (m - 1) count in
-    omega (arith, length-append a (b ++ d), length-append b d, length-file time language count, length-section (headLength count + content), length-directory language density depth (rootOf depth count) (m - 1) count)
+    let d = directoryHeader language density depth (newRoot depth count) (m - 1) count in
+    omega (arith, length-append a (b ++ d), length-append b d, length-file time language count, length-section (headLength count + content), length-directory language density depth (newRoot depth count) (m - 1) count)
 
 -- the listing chunks that are written are those of the input's layout
 pub leaves-are : (content : ℕ) (s : List ℕ) (n : ℕ) → map (map (storedOf s)) (chunksFrom content s [] Listing n (length s) 0) ≡ layoutOf n (given content s) .leaves
@@ -91,9 +90,9 @@ module _ (content : ℕ) (s starts : List ℕ) (n : ℕ) (l : Layout) (m depth c
       let lA : length A ≡ 4096 * m = length-level Listing n m s content (take 0 starts) (length s) 0 0 ∙ ap (λ (j : ℕ). 4096 * j) leaves-count in
       let x = fileHeader time language count in
       let y = sectionZero (headLength count + content) in
-      let z = directoryHeader language density depth (rootOf depth count) (m - 1) count in
+      let z = directoryHeader language density depth (newRoot depth count) (m - 1) count in
       let F : ℕ → ℕ → ℕ → ℕ → List (List ℕ) → List ℕ =
-      λ m d c k cs. fileHeader time language c ++ (sectionZero (headLength c + content) ++ (directoryHeader language density d (rootOf d c) (m - 1) c ++ flatten cs)) in
+      λ m d c k cs. fileHeader time language c ++ (sectionZero (headLength c + content) ++ (directoryHeader language density d (newRoot d c) (m - 1) c ++ flatten cs)) in
       let C : ℕ → ℕ → List (List ℕ) = λ j i. chunksOf Listing j i 0 (l .leaves) ++ chunksOf Index j i i (flatten (l .levels)) in
       three o₀ o₁ o₂ o₃ 0 (204 + 4096 * 0) (204 + 4096 * m) H A B w₁ (omega arith) w₂ (omega arith) w₃
       ∙ ap (sets o₀ 0)
@@ -104,7 +103,7 @@ module _ (content : ℕ) (s starts : List ℕ) (n : ℕ) (l : Layout) (m depth c
       ∙ ap (λ (t : ℕ). F m depth count 0 (C t m)) ns
       ∙ ap (λ (t : ℕ). F t depth count 0 (C (spacingOf density) t)) (w .listings)
       ∙ ap (λ (t : ℕ). F (length (l .leaves)) t count 0 (C (spacingOf density) (length (l .leaves)))) (w .deep)
-      ∙ ap (λ (t : ℕ). F (length (l .leaves)) (depthOf l) t 0 (C (spacingOf density) (length (l .leaves)))) (w .counted))
+      ∙ ap (λ (t : ℕ). F (length (l .leaves)) (layoutDepth l) t 0 (C (spacingOf density) (length (l .leaves)))) (w .counted))
 
 -- ---- what is taken
 
@@ -112,26 +111,26 @@ and-assoc : (a b c : Bool) → (a && (b && c)) ≡ ((a && b) && c)
 and-assoc true b c = refl
 and-assoc false b c = refl
 
-pub limits-dense : (density content : ℕ) → limits density content ≡ true → density ≤ 7
-unfolding limits
+pub limits-dense : (density content : ℕ) → inBounds density content ≡ true → density ≤ 7
+unfolding inBounds
 limits-dense density content h = leb-true density 7 (and-both (leb density 7) (ltb content (2 ^ 62)) h .0)
 
 module _ (density content : ℕ) (s : List ℕ) where
-  takes-is : takes density content s ≡ (limits density content && inputRight content s)
-  unfolding takes limits
+  takes-is : takes density content s ≡ (inBounds density content && inputRight content s)
+  unfolding takes inBounds
   takes-is = and-assoc (leb density 7) (ltb content (2 ^ 62)) (inputRight content s)
 
-  pub takes-both : limits density content ≡ true → inputRight content s ≡ true → takes density content s ≡ true
+  pub takes-both : inBounds density content ≡ true → inputRight content s ≡ true → takes density content s ≡ true
   takes-both h i = rw (takes-is, h, i)
 
-  pub takes-limits : limits density content ≡ false → takes density content s ≡ false
+  pub takes-limits : inBounds density content ≡ false → takes density content s ≡ false
   takes-limits h = rw (takes-is, h)
 
   pub takes-right : inputRight content s ≡ false → takes density content s ≡ false
-  takes-right h = rw (takes-is, h) (and-no (limits density content))
+  takes-right h = rw (takes-is, h) (and-no (inBounds density content))
 
   takes-input : takes density content s ≡ true → inputRight content s ≡ true
-  takes-input h = and-both (limits density content) (inputRight content s) (sym takes-is ∙ h) .1
+  takes-input h = and-both (inBounds density content) (inputRight content s) (sym takes-is ∙ h) .1
 
 -- a density that is taken is not cut
 pub spacing-is : (density n : ℕ) → density ≤ 7 → n ≡ spacingOf (min density 16) → n ≡ spacingOf density
@@ -147,7 +146,7 @@ module _ (s : List ℕ) (density time language content : ℕ) (out : List ℕ) w
   head = headBytes density time language content (layoutFor density content s)
 
   abbrev Answers : Written → List ℕ → Type 0
-  Answers r o = (r ≡ written s density content room) × ((o ≡ outputFor r head out) × (Worth r density time language content s o × ShortInput r content s))
+  Answers r o = (r ≡ written s density content room) × ((o ≡ outputFor r head out) × (RoundTripFor r density time language content s o × ShortInput r content s))
 
   pub answer-18 : (r : Written) → r ≡ Refused (refusalOf 18) → takes density content s ≡ false → Answers r out
   unfolding written
@@ -164,7 +163,7 @@ module _ (s : List ℕ) (density time language content : ℕ) (out : List ℕ) w
 
     -- the head with content behind it, by the round trip
     worth : time < 2 ^ 32 → language < 2 ^ 32 → (o : List ℕ) → o ≡ head ++ drop (headLength count) out → length head ≡ headLength count
-        → Worth (Length (headLength count)) density time language content s o
+        → RoundTripFor (Length (headLength count)) density time language content s o
     worth t g o w lh = λ rest e.
         let front : take (headLength count) o ≡ head = ap (take (headLength count)) w ∙ take-at head (drop (headLength count) out) (headLength count) lh in
         let l = layoutFor density content s in
@@ -183,5 +182,5 @@ module _ (s : List ℕ) (density time language content : ℕ) (out : List ℕ) w
         let p = w ∙ sets-parts out 0 head (omega arith) ∙ ap (λ (i : ℕ). head ++ drop i out) z in
         (rw (h, small, ← c, le-leb (headLength count) room enough), (p, (worth t g o p lh, input-bytes s b content (takes-input density content s h))))
 
-pub made-small : (s starts : List ℕ) (l : Layout) (m depth count : ℕ) → Made s starts l m depth count → smallEnough l ≡ true
+pub made-small : (s starts : List ℕ) (l : Layout) (m depth count : ℕ) → LevelsPlanned s starts l m depth count → smallEnough l ≡ true
 made-small s starts l m depth count w = small-is l (omega (arith, w .counted, w .small)) (omega (arith, w .deep, w .flat))

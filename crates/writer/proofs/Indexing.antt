@@ -1,6 +1,5 @@
 -- The loop that writes the index levels: before each level (`Indexing`), and what a turn leaves. The highest level so far has the chunks gs,
 -- numbered from base up to end.
--- Assumes nothing.
 use mathlib.Core.Path.{_≡_, refl, sym, ap, subst, _∙_}
 use mathlib.Core.List.{List, [], _∷_, _++_, map, flatten}
 use Prim.Native.Nat.{ℕ, _+_, _-_, _*_, _≤_, _<_}

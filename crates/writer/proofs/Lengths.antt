@@ -1,5 +1,4 @@
 -- Chunks one behind another: each is 4,096 bytes long, and those of several levels are those of one behind another.
--- Assumes nothing.
 use mathlib.Core.Path.{_≡_, sym, ap, _∙_}
 use mathlib.Core.List.{List, [], _∷_, _++_, map, flatten}
 use Prim.Native.Nat.{ℕ, _+_, _*_, _≤_}
@@ -19,7 +18,7 @@ use Rattle.pack.specs.Starts.{chunksFrom}
 use Rattle.pack.proofs.Levels.{chunks-level}
 use Rattle.pack.proofs.Fitting.{Short, level-fit}
 use Rattle.compose.specs.NewChunk.{newChunk}
-use Rattle.layout.specs.Layout.{prevOf, nextOf, chunksOf}
+use Rattle.layout.specs.Layout.{newPrevious, newNext, chunksOf}
 use Rattle.layout.proofs.Filled.{length-all}
 
 pub chunks-append : (k : Kind) (n m c : ℕ) (a b : List (List Stored)) → chunksOf k n m c (a ++ b) ≡ chunksOf k n m c a ++ chunksOf k n m (c + length a) b
@@ -27,7 +26,7 @@ unfolding chunksOf
 chunks-append k n m c [] b = ap (λ (j : ℕ). chunksOf k n m j b) (sym (add-zero c))
 chunks-append k n m c (g ∷ a) b =
     let e : c + 1 + length a ≡ c + length (g ∷ a) = omega arith in
-    ap (λ (l : List (List ℕ)). newChunk k n (prevOf c) (nextOf m c) g ∷ l) (chunks-append k n m (c + 1) a b ∙ ap (λ (j : ℕ). chunksOf k n m (c + 1) a ++ chunksOf k n m j b) e)
+    ap (λ (l : List (List ℕ)). newChunk k n (newPrevious c) (newNext m c) g ∷ l) (chunks-append k n m (c + 1) a b ∙ ap (λ (j : ℕ). chunksOf k n m (c + 1) a ++ chunksOf k n m j b) e)
 
 rows-short : (s : List ℕ) (es : List Place) → All (Row s) es → All Short (map (storedOf s) es)
 rows-short s [] none = none

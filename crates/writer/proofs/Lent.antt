@@ -1,5 +1,4 @@
 -- A part of a list that was lent and has come back, and parts that are read back.
--- Assumes nothing.
 use mathlib.Core.Path.{_≡_, sym, ap, _∙_}
 use mathlib.Core.List.{List, _++_}
 use Prim.Native.Nat.{ℕ, _+_, _≤_}

@@ -1,6 +1,5 @@
 -- The loop that writes one level: before each chunk (`Leveled`), and what a turn leaves. The cursor is at `here` with
 -- `left` that may be taken, and chunk j comes next; at first it was at `base` with `all`.
--- Assumes nothing.
 use mathlib.Core.Path.{_≡_, refl, sym, ap, _∙_}
 use mathlib.Core.List.{List, [], map, flatten}
 use Prim.Native.Nat.{ℕ, _+_, _*_, _≤_, _<_}
@@ -20,7 +19,7 @@ use Rattle.pack.proofs.Levels.{chunks-none, chunks-more}
 use Rattle.compose.specs.NewChunk.{newChunk}
 use Rattle.compose.specs.Steps.{groupFrom}
 use Rattle.compose.proofs.Whole.{length-extent}
-use Rattle.layout.specs.Layout.{prevOf, nextOf, chunksOf}
+use Rattle.layout.specs.Layout.{newPrevious, newNext, chunksOf}
 use Rattle.writer.specs.Plan.{LevelFits}
 
 module _ (content : ℕ) (s starts : List ℕ) (k : Kind) (n m all base end : ℕ) (out₀ : List ℕ) where
@@ -55,13 +54,13 @@ module _ (content : ℕ) (s starts : List ℕ) (k : Kind) (n m all base end : �
           (omega (arith, ap length (m .chunks), p .rest, p .kept, f .enough), omega (arith, ap length (m .chunks), p .rest, f .few))
 
       pub leveled-turn : (f : Extent) (after : List ℕ) → f ≡ extentFrom k n 0 0 here left (rowsFrom content s (take end starts) k left here)
-          → after ≡ sets out (204 + 4096 * j) (newChunk k n (prevOf j) (nextOf m j) (groupFrom content s (take end starts) k left here (f .count)))
+          → after ≡ sets out (204 + 4096 * j) (newChunk k n (newPrevious j) (newNext m j) (groupFrom content s (take end starts) k left here (f .count)))
           → length after ≡ length out → Leveled after (f .left) (f .at) (j + 1)
       unfolding chunksOf flatten
       leveled-turn f after is w l =
           let c = chunks-more content s (take end starts) k n left here e f some q is in
-          let g = newChunk k n (prevOf j) (nextOf m j) (groupFrom content s (take end starts) k left here (f .count)) in
-          let lg : length g ≡ 4096 = length-extent content s (take end starts) k left here n f is (prevOf j) (nextOf m j) in
+          let g = newChunk k n (newPrevious j) (newNext m j) (groupFrom content s (take end starts) k left here (f .count)) in
+          let lg : length g ≡ 4096 = length-extent content s (take end starts) k left here n f is (newPrevious j) (newNext m j) in
           let place : 204 + 4096 * (j + 1) ≡ 204 + 4096 * j + length g = omega arith in
           let more = bytesOf (j + 1) (coming (f .left) (f .at)) in
           record {

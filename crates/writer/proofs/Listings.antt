@@ -1,6 +1,5 @@
 -- The loop that reads the input: before each entry (`Reading`), and what a turn leaves. The next entry is at `here`, and `left` may be taken; the
 -- name before it is the `len` bytes at `from`, and f has the chunks so far.
--- Assumes nothing.
 use mathlib.Core.Path.{_≡_, refl, sym, ap, _∙_}
 use mathlib.Core.Bool.{Bool, true, false, cond, _&&_}
 use mathlib.Core.List.{List, [], _∷_, map}
@@ -18,7 +17,7 @@ use Rattle.entries.specs.Entry.{listingAt, nameOf}
 use Rattle.entries.specs.declared.Place.{Place}
 use Rattle.entries.specs.declared.Item.the-variants.{Good}
 use Rattle.entries.specs.declared.Kind.the-variants.{Listing}
-use Rattle.chunk.specs.Chunk.{headOf, quickCount}
+use Rattle.chunk.specs.Chunk.{firstPlace, quickCount}
 use Rattle.entries.proofs.Laws.{listing-inside}
 use Rattle.entries.specs.Stored.{storedOf, entryBytes, unpadded}
 use Rattle.source.specs.Source.{itemFrom, rowsFrom}
@@ -31,7 +30,7 @@ use Rattle.pack.specs.Starts.{chunksFrom, firstAt}
 use Rattle.pack.proofs.Groups.{later, later-none, later-first, later-fits, later-full}
 use Rattle.pack.proofs.Sizes.{row-short, row-long, row-bytes}
 use Rattle.pack.proofs.Filling.{fits-small}
-use Rattle.writer.specs.Plan.{Next, openWith, startsWith, Listed}
+use Rattle.writer.specs.Plan.{Next, openWith, startsWith, ListingLevel}
 use Rattle.writer.specs.declared.Open.{Open}
 
 module _ (content : ℕ) (s : List ℕ) (n : ℕ) (starts₀ : List ℕ) where
@@ -58,7 +57,7 @@ module _ (content : ℕ) (s : List ℕ) (n : ℕ) (starts₀ : List ℕ) where
   -- behind a full chunk nothing fits
   none-fits : (e : Place) → fits Listing n (0 + 1) (4096 + rowSize Listing e) ≡ false
   none-fits e =
-      let l : 4096 < headOf Listing + (4096 + rowSize Listing e) + (2 * quickCount n (0 + 1) + 2) = omega arith in
+      let l : 4096 < firstPlace Listing + (4096 + rowSize Listing e) + (2 * quickCount n (0 + 1) + 2) = omega arith in
       lt-leb _ _ l
 
   all-coming : later (rowSize Listing) (fits Listing n) 0 4096 (rows (length s) 0) ≡ all
@@ -87,7 +86,7 @@ module _ (content : ℕ) (s : List ℕ) (n : ℕ) (starts₀ : List ℕ) where
       right-here : inputRight content s ≡ eqb here (length s)
       right-here = sym (p .right) ∙ passes-end content s left here (part s from len) q
 
-      pub reading-end : here ≡ length s → Listed content s n starts₀ starts (f .chunks)
+      pub reading-end : here ≡ length s → ListingLevel content s n starts₀ starts (f .chunks)
       reading-end h =
           record {
             right = right-here ∙ eq-eqb here (length s) h;

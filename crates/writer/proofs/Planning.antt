@@ -1,6 +1,5 @@
 -- The loop that plans one index level: before each chunk (`Planning`), and what a turn leaves. The cursor is at `here` with
 -- `left` that may be taken, and chunk j comes next.
--- Assumes nothing.
 use mathlib.Core.Path.{_≡_, refl, sym, ap, _∙_}
 use mathlib.Core.List.{List, [], _∷_, map}
 use Prim.Native.Nat.{ℕ, _+_, _-_, _≤_, _<_}

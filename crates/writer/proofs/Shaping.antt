@@ -1,6 +1,5 @@
 -- The loop that plans the index levels: before each level (`Shaping`), and what a turn leaves. The highest level so far has the chunks gs,
 -- numbered from base up to end.
--- Assumes nothing.
 use mathlib.Core.Path.{_≡_, refl, sym, ap, ap₂, subst, _∙_}
 use mathlib.Core.Bool.{false}
 use mathlib.Core.List.{List, [], _∷_, _++_, map, flatten}
@@ -14,9 +13,9 @@ use Rattle.pack.specs.Levels.{level, childrenOf, levelsAbove}
 use Rattle.pack.specs.Starts.{chunksFrom, firstAt, Starts, AllStarts}
 use Rattle.pack.proofs.Levels.{chunks-children, starts-of}
 use Rattle.pack.proofs.Above.{upper, above-more, above-none}
-use Rattle.layout.specs.Layout.{Layout, layoutOver, chunkCount, depthOf, smallEnough}
+use Rattle.layout.specs.Layout.{Layout, layoutOver, chunkCount, layoutDepth, smallEnough}
 use Rattle.layout.proofs.Small.{too-many, too-deep}
-use Rattle.writer.specs.Plan.{Listed, LevelPlanned, Made}
+use Rattle.writer.specs.Plan.{ListingLevel, LevelPlanned, LevelsPlanned}
 use Rattle.fields.proofs.Parts.{length-part, part-alike}
 use Rattle.entries.specs.declared.Kind.the-variants.{Listing, Index}
 use Rattle.writer.proofs.Lent.{written-back, front-kept}
@@ -71,10 +70,10 @@ module _ (content : ℕ) (s : List ℕ) (n : ℕ) (leaves : List (List Stored)) 
     pub high : depth ≤ 5
     pub named : Starts s (part starts base (length gs)) gs
     pub count : end + length (flatten (levelsAbove n (6 - depth) base gs)) ≡ chunkCount l
-    pub deep : depth + length (levelsAbove n (6 - depth) base gs) ≡ depthOf l
+    pub deep : depth + length (levelsAbove n (6 - depth) base gs) ≡ layoutDepth l
     pub final : (f : List ℕ) → take end f ≡ take end starts → AllStarts s f base (gs ∷ levelsAbove n (6 - depth) base gs) → AllStarts s f 0 (l .leaves ∷ l .levels)
 
-  module _ (starts₀ starts : List ℕ) (m : ℕ) (kept : length starts₀ ≡ 4096) (same : length starts ≡ length starts₀) (p : Listed content s n starts₀ starts m)
+  module _ (starts₀ starts : List ℕ) (m : ℕ) (kept : length starts₀ ≡ 4096) (same : length starts ≡ length starts₀) (p : ListingLevel content s n starts₀ starts m)
       (is : map (map (storedOf s)) (chunksFrom content s [] Listing n (length s) 0) ≡ leaves) where
     listing-count : length (chunksFrom content s [] Listing n (length s) 0) ≡ length (l .leaves)
     unfolding layoutOver
@@ -109,7 +108,7 @@ module _ (content : ℕ) (s : List ℕ) (n : ℕ) (leaves : List (List Stored)) 
 
   module _ (m : ℕ) (starts : List ℕ) (depth base end : ℕ) (p : Shaping m starts depth base end) where
     -- one level is left
-    pub shaping-end : end - base ≤ 1 → Made s starts l m depth end
+    pub shaping-end : end - base ≤ 1 → LevelsPlanned s starts l m depth end
     unfolding flatten
     shaping-end h =
         let g = p .gs in

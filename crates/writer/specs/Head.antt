@@ -1,5 +1,4 @@
 -- What the writer answers, and what its output then holds (FORMAT, Writer).
--- Assumes nothing.
 use Prim.Native.Nat.{ℕ}
 use mathlib.Core.Path.{_≡_}
 use mathlib.Core.Bool.{cond}
@@ -36,10 +35,10 @@ outputFor (Refused r) head out = out
 
 -- ---- what the output is then worth: its first n bytes, with any content of that length behind them, are a book that lists the entries s
 
-abbrev pub Worth : Written → (density time language content : ℕ) → List ℕ → List ℕ → Type 0
-Worth (Length n) density time language content s out =
+abbrev pub RoundTripFor : Written → (density time language content : ℕ) → List ℕ → List ℕ → Type 0
+RoundTripFor (Length n) density time language content s out =
     (rest : List ℕ) → length rest ≡ content → RoundTrip density time language (layoutFor density content s) (given content s) (take n out ++ rest)
-Worth (Refused r) density time language content s out = Unit {0}
+RoundTripFor (Refused r) density time language content s out = Unit {0}
 
 -- ---- what the input then was: what is written for its entries, each number in its short form (W2, N4)
 

@@ -1,5 +1,4 @@
 -- What the parts of the writer's code ask for and leave.
--- Assumes nothing.
 use Prim.Native.Nat.{ℕ, _+_, _-_, _^_, _≤_, _<_}
 use mathlib.Core.Path.{_≡_}
 use mathlib.Core.Bool.{Bool, true, false, cond, _&&_}
@@ -15,17 +14,17 @@ use Rattle.pack.specs.Groups.{fits}
 use Rattle.pack.specs.Fill.{rowSize}
 use Rattle.pack.specs.Starts.{chunksFrom, firstAt, AllStarts}
 use Rattle.layout.specs.Headers.{headLength, fileHeader, sectionZero, directoryHeader}
-use Rattle.layout.specs.Layout.{Layout, layoutOf, chunkCount, depthOf, smallEnough, rootOf, chunksOf}
-use Rattle.writer.specs.declared.Shape.{Shape}
-use Rattle.writer.specs.declared.Shape.the-variants.{Chunks, TooMany}
+use Rattle.layout.specs.Layout.{Layout, layoutOf, chunkCount, layoutDepth, smallEnough, newRoot, chunksOf}
+use Rattle.writer.specs.declared.Sizes.{Sizes}
+use Rattle.writer.specs.declared.Sizes.the-variants.{Chunks, TooMany}
 use Rattle.writer.specs.declared.Leaves.{Leaves}
 use Rattle.writer.specs.declared.Leaves.the-variants.{Count}
 use Rattle.writer.specs.declared.Open.{Open}
 
 -- ---- what is asked of density and content length (W2)
 
-unfoldable pub limits : ℕ → ℕ → Bool
-limits density content = leb density 7 && ltb content (2 ^ 62)
+unfoldable pub inBounds : ℕ → ℕ → Bool
+inBounds density content = leb density 7 && ltb content (2 ^ 62)
 
 -- ---- the listing chunks so far, as the input is read, and the entry that comes next
 
@@ -51,13 +50,13 @@ startsWith n f e starts =
 
 -- ---- the listing level, checked and planned: m is the number of its chunks
 
-pub record Listed (content : ℕ) (s : List ℕ) (n : ℕ) (starts₀ starts : List ℕ) (m : ℕ) : Type 0 where
+pub record ListingLevel (content : ℕ) (s : List ℕ) (n : ℕ) (starts₀ starts : List ℕ) (m : ℕ) : Type 0 where
   pub right : inputRight content s ≡ true
   pub count : m ≡ length (chunksFrom content s [] Listing n (length s) 0)
   pub places : starts ≡ sets starts₀ 0 (map firstAt (chunksFrom content s [] Listing n (length s) 0))
 
 abbrev pub ListingPlanned : ℕ → List ℕ → ℕ → List ℕ → List ℕ → Leaves → Type 0
-ListingPlanned content s n starts₀ starts (Count m) = Listed content s n starts₀ starts m
+ListingPlanned content s n starts₀ starts (Count m) = ListingLevel content s n starts₀ starts m
 ListingPlanned content s n starts₀ starts Leaves.Bad = inputRight content s ≡ false
 
 -- ---- an index level that is planned: its chunks are numbered from `end` on; r is the number behind the last
@@ -70,18 +69,18 @@ pub record LevelPlanned (content : ℕ) (s : List ℕ) (n base end : ℕ) (start
 
 -- ---- all levels of a layout, planned: m is the number of its listing chunks
 
-pub record Made (s starts : List ℕ) (l : Layout) (m depth count : ℕ) : Type 0 where
+pub record LevelsPlanned (s starts : List ℕ) (l : Layout) (m depth count : ℕ) : Type 0 where
   pub listings : m ≡ length (l .leaves)
-  pub deep : depth ≡ depthOf l
+  pub deep : depth ≡ layoutDepth l
   pub counted : count ≡ chunkCount l
   pub small : count ≤ 4096
   pub flat : depth ≤ 5
   pub named : AllStarts s starts 0 (l .leaves ∷ l .levels)
 
-abbrev pub Planned : ℕ → List ℕ → ℕ → List ℕ → Shape → Type 0
-Planned content s n starts (Chunks m depth count) = (inputRight content s ≡ true) × Made s starts (layoutOf n (given content s)) m depth count
+abbrev pub Planned : ℕ → List ℕ → ℕ → List ℕ → Sizes → Type 0
+Planned content s n starts (Chunks m depth count) = (inputRight content s ≡ true) × LevelsPlanned s starts (layoutOf n (given content s)) m depth count
 Planned content s n starts TooMany = (inputRight content s ≡ true) × (smallEnough (layoutOf n (given content s)) ≡ false)
-Planned content s n starts Shape.Bad = inputRight content s ≡ false
+Planned content s n starts Sizes.Bad = inputRight content s ≡ false
 
 -- ---- room for a level, and for all index levels
 
@@ -97,7 +96,7 @@ indexOf n m l = chunksOf Index n m m (flatten (l .levels))
 pub record IndexFits (s starts : List ℕ) (l : Layout) (m room : ℕ) : Type 0 where
   pub listings : m ≡ length (l .leaves)
   pub small : chunkCount l ≤ 4096
-  pub flat : depthOf l ≤ 5
+  pub flat : layoutDepth l ≤ 5
   pub known : length starts ≡ 4096
   pub named : AllStarts s starts 0 (l .leaves ∷ l .levels)
   pub enough : headLength (chunkCount l) ≤ room
@@ -106,10 +105,10 @@ pub record IndexFits (s starts : List ℕ) (l : Layout) (m room : ℕ) : Type 0 
 
 unfoldable pub headersOf : (density time language content m depth count : ℕ) → List ℕ
 headersOf density time language content m depth count =
-    fileHeader time language count ++ (sectionZero (headLength count + content) ++ directoryHeader language density depth (rootOf depth count) (m - 1) count)
+    fileHeader time language count ++ (sectionZero (headLength count + content) ++ directoryHeader language density depth (newRoot depth count) (m - 1) count)
 
 pub record Ready (s starts : List ℕ) (l : Layout) (m depth count room : ℕ) : Type 0 where
-  pub made : Made s starts l m depth count
+  pub made : LevelsPlanned s starts l m depth count
   pub known : length starts ≡ 4096
   pub some : 0 < m
   pub enough : headLength count ≤ room

@@ -16,9 +16,9 @@ ghost use Rattle.pack.specs.Starts.{chunksFrom};
 ghost use Rattle.compose.specs.NewChunk.{newChunk};
 ghost use Rattle.compose.specs.Steps.{groupFrom};
 ghost use Rattle.layout.specs.Headers.{fileHeader, sectionZero, directoryHeader};
-ghost use Rattle.layout.specs.Layout.{layoutOf, layoutFor, prevOf, nextOf, chunksOf, headBytes};
-ghost use Rattle.writer.specs.Head.{written, outputFor, Worth, ShortInput};
-ghost use Rattle.writer.specs.Plan.{limits, Next, openWith, startsWith, ListingPlanned, LevelPlanned, Planned, LevelFits, IndexFits, indexOf, headersOf, Ready};
+ghost use Rattle.layout.specs.Layout.{layoutOf, layoutFor, newPrevious, newNext, chunksOf, headBytes};
+ghost use Rattle.writer.specs.Head.{written, outputFor, RoundTripFor, ShortInput};
+ghost use Rattle.writer.specs.Plan.{inBounds, Next, openWith, startsWith, ListingPlanned, LevelPlanned, Planned, LevelFits, IndexFits, indexOf, headersOf, Ready};
 use entries::Item;
 use entries::Kind;
 use entries::Place;
@@ -47,7 +47,7 @@ enum Leaves {
 
 // What is known of the chunks before any is written: the number of listing chunks, the depth, the number of all chunks. Or there are too many.
 // Or the input is not one that the writer takes.
-enum Shape {
+enum Sizes {
     Chunks(usize, usize, usize),
     TooMany,
     Bad,
@@ -55,7 +55,7 @@ enum Shape {
 
 // Whether the writer takes a density and a content length.
 fn is_taken(density: u32, content: u64) -> bool
-    ensures { λ r. ⌜ r ≡ limits density content ⌝ }
+    ensures { λ r. ⌜ r ≡ inBounds density content ⌝ }
 {
     if 7 < density {
         return false;
@@ -80,7 +80,7 @@ fn add(starts: &mut [usize], n: usize, f: Open, e: Place, size: usize) -> Open
     ensures { λ r. ⌜ (r ≡ openWith n f e) × (now (starts .exit) ≡ startsWith n f e (now (starts .entry))) ⌝ }
 {
     let bytes = f.bytes + size;
-    if pack::fits(Kind::Listing, n, f.count, bytes) {
+    if pack::fits_chunk(Kind::Listing, n, f.count, bytes) {
         return Open {
             chunks: f.chunks,
             count: f.count + 1,
@@ -191,32 +191,32 @@ fn plan_level(
 
 // Checks the input and plans all levels: the listing chunks, then index levels until one has a single chunk. `starts` then has the place of
 // each chunk's first name.
-fn plan(input: &[u8], content: u64, n: usize, starts: &mut [usize]) -> Shape
+fn plan(input: &[u8], content: u64, n: usize, starts: &mut [usize]) -> Sizes
     requires { ⌜ length (now starts) ≡ 4096 ⌝ }
     ensures { λ r. ⌜ Planned content (now (input .entry)) n (now (starts .exit)) r ⌝ }
 {
     let Leaves::Count(m) = plan_listing(input, content, n, starts) else {
-        return Shape::Bad;
+        return Sizes::Bad;
     };
     if starts.len() < m {
-        return Shape::TooMany;
+        return Sizes::TooMany;
     }
     let mut depth: usize = 1;
     let mut base: usize = 0;
     let mut end = m;
     while 1 < end - base {
         if depth == 5 {
-            return Shape::TooMany;
+            return Sizes::TooMany;
         }
         let next = plan_level(input, content, n, starts, base, end);
         if starts.len() < next {
-            return Shape::TooMany;
+            return Sizes::TooMany;
         }
         base = end;
         end = next;
         depth += 1;
     }
-    Shape::Chunks(m, depth, end)
+    Sizes::Chunks(m, depth, end)
 }
 
 // Writes chunk c, whose first entry is at a cursor; m is the number of listing chunks.
@@ -231,7 +231,7 @@ fn put_chunk(
     c: usize,
 ) -> Extent
     requires { ⌜ (204 + 4096 * (c + 1) ≤ length (now out)) × (c < 4096) ⌝ }
-    ensures { λ r. ⌜ (r ≡ extentFrom (from .kind) n 0 0 (from .at) (from .left) (rowsFrom content (now (input .entry)) (now (starts .entry)) (from .kind) (from .left) (from .at))) × (now (out .exit) ≡ sets (now (out .entry)) (204 + 4096 * c) (newChunk (from .kind) n (prevOf c) (nextOf m c) (groupFrom content (now (input .entry)) (now (starts .entry)) (from .kind) (from .left) (from .at) (r .count)))) ⌝ }
+    ensures { λ r. ⌜ (r ≡ extentFrom (from .kind) n 0 0 (from .at) (from .left) (rowsFrom content (now (input .entry)) (now (starts .entry)) (from .kind) (from .left) (from .at))) × (now (out .exit) ≡ sets (now (out .entry)) (204 + 4096 * c) (newChunk (from .kind) n (newPrevious c) (newNext m c) (groupFrom content (now (input .entry)) (now (starts .entry)) (from .kind) (from .left) (from .at) (r .count)))) ⌝ }
 {
     let at = 204 + 4096 * c;
     compose::write_chunk(
@@ -455,7 +455,7 @@ pub fn write_head(
 ) -> Written
     ensures answer { λ r. ⌜ r ≡ written (now (entries .entry)) density «content_length» (length (now (out .entry))) ⌝ }
     ensures output { λ r. ⌜ now (out .exit) ≡ outputFor r (headBytes density time language «content_length» (layoutFor density «content_length» (now (entries .entry)))) (now (out .entry)) ⌝ }
-    ensures worth { λ r. ⌜ Worth r density time language «content_length» (now (entries .entry)) (now (out .exit)) ⌝ }
+    ensures round_trip { λ r. ⌜ RoundTripFor r density time language «content_length» (now (entries .entry)) (now (out .exit)) ⌝ }
     ensures input { λ r. ⌜ ShortInput r «content_length» (now (entries .entry)) ⌝ }
 {
     if !is_taken(density, content_length) {
@@ -465,9 +465,9 @@ pub fn write_head(
     let mut starts = [0usize; 4096];
     let shape = plan(entries, content_length, n, &mut starts);
     match shape {
-        Shape::Bad => Written::Refused(refusals::refuse(18)),
-        Shape::TooMany => Written::Refused(refusals::refuse(19)),
-        Shape::Chunks(m, depth, count) => {
+        Sizes::Bad => Written::Refused(refusals::refuse(18)),
+        Sizes::TooMany => Written::Refused(refusals::refuse(19)),
+        Sizes::Chunks(m, depth, count) => {
             let len = 204 + 4096 * count;
             if out.len() < len {
                 return Written::Refused(refusals::refuse(20));

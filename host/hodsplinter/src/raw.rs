@@ -63,7 +63,7 @@ extern "C" {
         cursor: *const u64,
         part: *mut u64,
     ) -> u64;
-    fn hods_chunk(
+    fn hods_chunk_page(
         file: *const u8,
         len: usize,
         record: *const u64,
@@ -215,7 +215,7 @@ pub fn chunk(
     next: &mut [u64; 2],
 ) -> u64 {
     unsafe {
-        hods_chunk(
+        hods_chunk_page(
             file.as_ptr(),
             file.len(),
             record.as_ptr(),

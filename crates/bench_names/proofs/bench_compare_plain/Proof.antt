@@ -1,5 +1,4 @@
 -- `bench_compare_plain` meets its contract. The loop's invariant: what is left of the two names compares as the whole names do.
--- Assumes nothing.
 use mathlib.Core.Path.{_≡_, refl, sym, ap, _∙_}
 use Prim.Native.Nat.{_≤_, _-_}
 use native.Mathlib.Omega.{arith}

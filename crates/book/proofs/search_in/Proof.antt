@@ -2,7 +2,7 @@ use mathlib.Core.Path.{sym, _∙_}
 use denote.Ref.{now}
 use borrow.Author.Needs.{needs}
 use Rattle.entries.specs.declared.Kind.the-variants.{Listing}
-use Rattle.book.proofs.Meeting.{Linked, met-listing, met-no-listing}
+use Rattle.book.proofs.Checked.{Linked, checked-listing, checked-no-listing}
 use Rattle.book.proofs.Searching.{search-found, search-next, search-barred}
 use Rattle.book.proofs.search_in.Statement.{statement}
 use Rattle.book.proofs.search_in.Tie as tie
@@ -10,10 +10,10 @@ use Rattle.book.proofs.search_in.Tie as tie
 -- the chunk is a listing chunk, with the next that the code has
 linked-is : (c : tie.After-known-told) → let a = c .before .before .before .before .before .before .args in
     Linked (now (a .file)) (a .book) (a .c) (c .before .next .given .0 .0) (c .before .next .given .0 .1 .0)
-linked-is c = met-listing _ _ _ _ _ (sym (c .before .before .before .met .ensures) ∙ c .before .next .given .1)
+linked-is c = checked-listing _ _ _ _ _ (sym (c .before .before .before .checked-chunk .ensures) ∙ c .before .next .given .1)
 
-met-requires : tie.Need-met-requires
-met-requires c κs = search needs
+checked-chunk-requires : tie.Need-checked-chunk-requires
+checked-chunk-requires c κs = search needs
 
 enum-known-next : tie.Need-enum-known-next
 enum-known-next c = search needs
@@ -23,7 +23,7 @@ returns c =
     let m = c .before in
     let a = m .before .before .before .args in
     search-barred (now (a .file)) (a .book) (now (a .name)) (a .c)
-    (met-no-listing (now (a .file)) (a .book) (a .c) (m .met .result) (m .met .ensures) (c .match .keys2))
+    (checked-no-listing (now (a .file)) (a .book) (a .c) (m .checked-chunk .result) (m .checked-chunk .ensures) (c .match .keys2))
 
 find-in-requires : tie.Need-find-in-requires
 find-in-requires c κs = search needs
@@ -51,4 +51,4 @@ returns-3 c =
 pub search-in-spec : {M : Type 1} → statement M
 search-in-spec =
     tie.close
-    (tie.spec met-requires enum-known-next returns find-in-requires enum-known-count enum-known-spent returns-2 returns-3)
+    (tie.spec checked-chunk-requires enum-known-next returns find-in-requires enum-known-count enum-known-spent returns-2 returns-3)

@@ -12,7 +12,7 @@ use Rattle.fields.specs.Part.{part}
 use Rattle.entries.specs.Entry.{itemAt}
 use Rattle.entries.specs.declared.Item.the-variants.{Good}
 use Rattle.entries.proofs.Laws.{Inside, item-inside}
-use Rattle.chunk.specs.Chunk.{headOf, entriesAt, made, judged}
+use Rattle.chunk.specs.Chunk.{firstPlace, entriesAt, parsedWith, checkedEntries}
 use Rattle.chunk.specs.Answer.{chunkOf}
 use Rattle.chunk.specs.declared.Chunk.the-variants.{Refused}
 use Rattle.chunk.proofs.Frame.{head-small}
@@ -28,7 +28,7 @@ abbrev Inv-loop : tie.InvT-loop
 Inv-loop c limits kind n total end first at₀ from₀ len₀ rises₀ quick₀ m₀ left₀ at from len rises quick m left =
     (from + len ≤ length c) × (m .past < n) × (m .word * n + m .past + left ≡ total)
     × (outcome n kind c rises quick (m .word * n + m .past) (part c from len) (entriesAt limits kind c end left at)
-    ≡ chunkOf (judged n kind c (entriesAt limits kind c end total (headOf kind))))
+    ≡ chunkOf (checkedEntries n kind c (entriesAt limits kind c end total (firstPlace kind))))
 
 abbrev μ-loop : tie.MeasureT-loop
 μ-loop c limits kind n total end first at₀ from₀ len₀ rises₀ quick₀ m₀ left₀ at from len rises quick m left = left
@@ -60,7 +60,7 @@ loop-holds c =
       search needs,
       omega arith,
       omega arith,
-      rw (z, c .first-place .ensures) (at-start (a .n) (a .kind) (now (a .c)) (entriesAt (a .limits) (a .kind) (now (a .c)) (a .end) (a .total) (headOf (a .kind)))),
+      rw (z, c .first-place .ensures) (at-start (a .n) (a .kind) (now (a .c)) (entriesAt (a .limits) (a .kind) (now (a .c)) (a .end) (a .total) (firstPlace (a .kind)))),
     )
 
 item-at-requires : tie.Need-item-at-requires Inv-loop μ-loop
@@ -117,7 +117,7 @@ loop-again c =
         c .before .before .still-rises .ensures,
         c .before .still-quick .ensures,
         t .before .before .before .first-place .ensures,
-        ← mark-right (a .n) w p (l .inv .1) (now (a .c)) (headOf (a .kind)) (place .at),
+        ← mark-right (a .n) w p (l .inv .1) (now (a .c)) (firstPlace (a .kind)) (place .at),
       )
           (sym (turn (a .n) (a .kind) (now (a .c)) (a .limits) (a .end) (l .rises) (l .quick) (w * a .n + p) (l .left) (l .at) (part (now (a .c)) (l .from) (l .len)) place (t .before .loop-test .taken) (read-is e))
           ∙ l .inv .3),
@@ -125,8 +125,8 @@ loop-again c =
 
 -- behind the last entry
 ended : (c : tie.After-loop Inv-loop μ-loop) → let l = c .before .loop in let a = c .before .before .before .before .args in
-    cond (eqb (l .at) (a .end)) (cond (l .rises) (cond (l .quick) (chunkOf (made (a .kind) (now (a .c)) [])) (Refused 11)) (Refused 12)) (Refused 10)
-    ≡ chunkOf (judged (a .n) (a .kind) (now (a .c)) (entriesAt (a .limits) (a .kind) (now (a .c)) (a .end) (a .total) (headOf (a .kind))))
+    cond (eqb (l .at) (a .end)) (cond (l .rises) (cond (l .quick) (chunkOf (parsedWith (a .kind) (now (a .c)) [])) (Refused 11)) (Refused 12)) (Refused 10)
+    ≡ chunkOf (checkedEntries (a .n) (a .kind) (now (a .c)) (entriesAt (a .limits) (a .kind) (now (a .c)) (a .end) (a .total) (firstPlace (a .kind))))
 ended c =
     let l = c .before .loop in
     let a = c .before .before .before .before .args in

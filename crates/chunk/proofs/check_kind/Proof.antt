@@ -7,7 +7,7 @@ use native.Mathlib.Nat.{div-le-self}
 use Prim.Native.Nat.{ℕ, _+_, _-_, _*_, _<_}
 use lib.Dec.{ltb, leb}
 use denote.Ref.{now}
-use Rattle.chunk.specs.Chunk.{bad, headOf, quickCount, spacingOf, countOf, entriesAt, judged, parsedAs}
+use Rattle.chunk.specs.Chunk.{bad, firstPlace, quickCount, spacingOf, entryCount, entriesAt, checkedEntries, parsedAs}
 use Rattle.chunk.proofs.Frame.{head-small, framed-as, parsed-capped}
 use Rattle.chunk.proofs.check_kind.Statement.{statement}
 use Rattle.chunk.proofs.check_kind.Tie as tie
@@ -29,15 +29,15 @@ cast-tail c = search needs
 
 -- the chunk's meaning over the numbers that were read, with its quick words and its header's length
 whole : (c : tie.After-le32) (q h : ℕ) → q ≡ quickCount (c .before .before .spacing .result) (c .before .entry-count .result)
-    → h ≡ headOf (c .before .before .before .before .args .kind)
+    → h ≡ firstPlace (c .before .before .before .before .args .kind)
     → let a = c .before .before .before .before .args in
     let n = c .before .before .spacing .result in let k = c .before .entry-count .result in let t = c .le32 .result in
     parsedAs (spacingOf (a .limits .density)) (a .limits) (a .kind) (now (a .c))
-    ≡ cond (ltb 0 k && (leb (2 + 2 * q) t && leb t (4096 - h))) (judged n (a .kind) (now (a .c)) (entriesAt (a .limits) (a .kind) (now (a .c)) (4096 - t) k (headOf (a .kind)))) (bad 9)
+    ≡ cond (ltb 0 k && (leb (2 + 2 * q) t && leb t (4096 - h))) (checkedEntries n (a .kind) (now (a .c)) (entriesAt (a .limits) (a .kind) (now (a .c)) (4096 - t) k (firstPlace (a .kind)))) (bad 9)
 whole c q h eq eh =
     let a = c .before .before .before .before .args in
     let n = c .before .before .spacing in
-    let small : countOf (now (a .c)) < 65536 = omega (arith, c .before .entry-count .ensures) in
+    let small : entryCount (now (a .c)) < 65536 = omega (arith, c .before .entry-count .ensures) in
     sym (parsed-capped (a .limits) (a .kind) (now (a .c)) small)
     ∙ ap (λ (m : ℕ). parsedAs m (a .limits) (a .kind) (now (a .c))) (sym (n .ensures))
     ∙ framed-as (a .limits) (a .kind) (now (a .c)) (n .result) (c .before .entry-count .result) q (c .le32 .result) h (c .before .entry-count .ensures) eq (c .le32 .ensures) eh

@@ -4,14 +4,14 @@ use Rattle.compare.proofs.Passing.{passed-none}
 use Rattle.compare.proofs.pass_same.Statement.{statement}
 use Rattle.compare.proofs.pass_same.Tie as tie
 
-fits-requires : tie.Need-fits-requires
-fits-requires c κs = search needs
+record-fits-requires : tie.Need-record-fits-requires
+record-fits-requires c κs = search needs
 
 returns : tie.Need-returns
 returns c = passed-none _ _ _ _ _
 
-fits-requires-2 : tie.Need-fits-requires-2
-fits-requires-2 c κs = search needs
+record-fits-requires-2 : tie.Need-record-fits-requires-2
+record-fits-requires-2 c κs = search needs
 
 returns-2 : tie.Need-returns-2
 returns-2 c = passed-none _ _ _ _ _
@@ -26,9 +26,9 @@ pub pass-same-spec : {M : Type 1} → statement M
 pass-same-spec =
     tie.close
     (tie.spec
-    fits-requires
+    record-fits-requires
     returns
-    fits-requires-2
+    record-fits-requires-2
     returns-2
     pass-inside-requires
     returns-3)

@@ -1,5 +1,4 @@
 -- `compose::put_entries` meets its contract. The loop's invariant: what is taken is written, and with what is yet to be taken is the whole.
--- Assumes nothing.
 use mathlib.Core.Path.{_≡_, refl, sym, _∙_}
 use native.Mathlib.Omega.{arith}
 use lib.ListN.{length}
@@ -58,8 +57,8 @@ add-put-entry c = let e = c .before .before .before in omega (arith, turn e .fit
 put-entry-requires : tie.Need-put-entry-requires Inv-loop μ-loop
 put-entry-requires c κs = let e = c .before .before .before in (omega (arith, turn e .fits, whole-size (e .before .before .before), e .before .before .before .before .first-place .ensures), next e .inside)
 
-mark-requires : tie.Need-mark-requires Inv-loop μ-loop
-mark-requires c κs = let e = c .before .before .before .before .before .before .before in (c .before .before .before .put-entry .kept .0 ∙ whole-size (e .before .before .before), turn e .words, omega (arith, turn e .near))
+put-quick-word-requires : tie.Need-put-quick-word-requires Inv-loop μ-loop
+put-quick-word-requires c κs = let e = c .before .before .before .before .before .before .before in (c .before .before .before .put-entry .kept .0 ∙ whole-size (e .before .before .before), turn e .words, omega (arith, turn e .near))
 
 add-t16 : tie.Need-add-t16 Inv-loop μ-loop
 add-t16 c = let e = c .before .before .before .before .before .before .before .before .before .before .before in omega (arith, e .before .before .before .loop .inv .1 .few, turn e .near)
@@ -75,7 +74,7 @@ loop-again c =
     let e = c .before .before .before .before .before .before .before .before .before .before .before .before in
     let l = e .before .before .before in
     let p = c .before .before .before .before .before .before .before .before .put-entry in
-    let m = c .before .before .before .before .mark in
+    let m = c .before .before .before .before .put-quick-word in
     (m .kept .0 ∙ p .kept .0 ∙ l .loop .inv .0, putting-more _ _ _ _ _ _ _ _ _ (l .loop .inv .1) _ _ (next e) _ _ _ (l .before .first-place .ensures) (p .ensures) (m .ensures))
 
 pub put-entries-spec : {M : Type 1} → statement M
@@ -93,7 +92,7 @@ put-entries-spec =
     returns
     add-put-entry
     put-entry-requires
-    mark-requires
+    put-quick-word-requires
     add-t16
     sub-t19
     loop-less

@@ -1,4 +1,4 @@
--- `directory_header::directory_right` meets its contract. Assumes nothing.
+-- `directory_header::directory_right` meets its contract.
 use borrow.Author.Needs.{needs}
 use borrow.Author.Tests.{eq-eqb, ne-eqb}
 use mathlib.Core.Path.{_≡_}

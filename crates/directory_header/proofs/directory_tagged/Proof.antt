@@ -1,4 +1,4 @@
--- `directory_header::directory_tagged` meets its contract. Assumes nothing.
+-- `directory_header::directory_tagged` meets its contract.
 use borrow.Author.Needs.{needs}
 use borrow.Author.Tests.{eq-eqb, ne-eqb}
 use Rattle.fields.proofs.Tests.{held, failed}

@@ -1,4 +1,4 @@
--- `encint::groups_at` meets its contract. The loop's invariant: what is left makes the whole, of a value that stays small. Assumes nothing.
+-- `encint::groups_at` meets its contract. The loop's invariant: what is left makes the whole, of a value that stays small.
 use mathlib.Core.Path.{_≡_, sym, ap, _∙_}
 use Prim.Native.Nat.{ℕ, _+_, _-_, _*_, _%_, _^_, _≤_, _<_}
 use native.Mathlib.Decide.{decLt}

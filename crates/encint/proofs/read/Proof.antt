@@ -1,4 +1,4 @@
--- `encint::read` meets its contract. Assumes nothing.
+-- `encint::read` meets its contract.
 use mathlib.Core.Path.{sym, _∙_}
 use native.Mathlib.Omega.{arith}
 use borrow.Author.Needs.{needs}

@@ -1,15 +1,15 @@
--- `encint::size` meets its contract. The loop's invariant: the groups counted and those that are left make all. Assumes nothing.
+-- `encint::size` meets its contract. The loop's invariant: the groups counted and those that are left make all.
 use mathlib.Core.Path.{_≡_}
 use Prim.Native.Nat.{_+_, _-_, _/_, _^_, _≤_, _<_}
 use native.Mathlib.Omega.{arith}
 use borrow.Author.Needs.{needs}
-use Rattle.encint.specs.Encint.{groups}
+use Rattle.encint.specs.Encint.{sevenBitGroups}
 use Rattle.encint.proofs.Writing.{encoded-none, length-encoded, room, less-step, groups-step, groups-zero}
 use Rattle.encint.proofs.size.Statement.{statement}
 use Rattle.encint.proofs.size.Tie as tie
 
 abbrev Inv-loop : tie.InvT-loop
-Inv-loop v w₀ n₀ w n = (n ≤ 9) × (w < 128 ^ (9 - n)) × (groups 8 (v / 128) + 1 ≡ n + groups (9 - n) w)
+Inv-loop v w₀ n₀ w n = (n ≤ 9) × (w < 128 ^ (9 - n)) × (sevenBitGroups 8 (v / 128) + 1 ≡ n + sevenBitGroups (9 - n) w)
 
 abbrev μ-loop : tie.MeasureT-loop
 μ-loop v w₀ n₀ w n = w

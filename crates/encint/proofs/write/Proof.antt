@@ -1,4 +1,4 @@
--- `encint::write` meets its contract. Assumes nothing.
+-- `encint::write` meets its contract.
 use mathlib.Core.Path.{_∙_}
 use native.Mathlib.Omega.{arith}
 use borrow.Author.Needs.{needs}

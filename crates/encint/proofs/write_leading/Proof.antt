@@ -1,4 +1,4 @@
--- `encint::write_leading` meets its contract. The loop's invariant: what is left to be written makes the whole. Assumes nothing.
+-- `encint::write_leading` meets its contract. The loop's invariant: what is left to be written makes the whole.
 use mathlib.Core.Path.{_≡_, refl, _∙_}
 use mathlib.Core.List.{_++_}
 use Prim.Native.Nat.{_+_, _≤_}

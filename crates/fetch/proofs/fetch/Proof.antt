@@ -2,7 +2,7 @@ use mathlib.Core.Path.{sym, ap, _∙_}
 use denote.Ref.{now}
 use borrow.Author.Needs.{needs}
 use Rattle.fields.proofs.Tests.{held, failed}
-use Rattle.book.proofs.Laws.{fits-told}
+use Rattle.book.proofs.Laws.{record-fits-told}
 use Rattle.lookup.specs.declared.Reply.the-variants.{Refused}
 use Rattle.lookup.proofs.Replies.{replied-name, replied-record, replied-search}
 use Rattle.fetch.specs.Fetch.{fetched}
@@ -24,8 +24,8 @@ returns c =
     promised (now (a .file)) (a .book) (now (a .name)) _
     (ap (λ x. Refused x) (c .refuse .ensures) ∙ sym (replied-name (now (a .file)) (a .book) (now (a .name)) _ (failed (n .is-askable .ensures) (c .before .if1 .taken))))
 
-fits-requires : tie.Need-fits-requires
-fits-requires c κs = search needs
+record-fits-requires : tie.Need-record-fits-requires
+record-fits-requires c κs = search needs
 
 refuse-requires-2 : tie.Need-refuse-requires-2
 refuse-requires-2 c κs = search needs
@@ -48,7 +48,7 @@ fetch-from-requires c κs =
     let e = c .before in
     let f = e .before in
     let a = f .before .before .before .before .before .args in
-    let h = fits-told (now (a .file)) (a .book) (held (f .fits2 .ensures) (e .if2 .left)) in
+    let h = record-fits-told (now (a .file)) (a .book) (held (f .fits2 .ensures) (e .if2 .left)) in
     h .some-levels
 
 returns-3 : tie.Need-returns-3
@@ -66,4 +66,4 @@ returns-3 c =
 pub fetch-spec : {M : Type 1} → statement M
 fetch-spec =
     tie.close
-    (tie.spec is-askable-requires refuse-requires returns fits-requires refuse-requires-2 returns-2 top-chunk-requires fetch-from-requires returns-3)
+    (tie.spec is-askable-requires refuse-requires returns record-fits-requires refuse-requires-2 returns-2 top-chunk-requires fetch-from-requires returns-3)

@@ -1,4 +1,4 @@
--- `fields::byte` meets its contract. Assumes nothing.
+-- `fields::byte` meets its contract.
 use mathlib.Core.Path.{sym}
 use Prim.Native.Nat.{_+_}
 use native.Mathlib.Omega.{arith}

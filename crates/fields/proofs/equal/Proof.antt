@@ -1,4 +1,4 @@
--- `fields::equal` meets its contract. The loop's invariant: what is left of both lists decides. Assumes nothing.
+-- `fields::equal` meets its contract. The loop's invariant: what is left of both lists decides.
 use mathlib.Core.Path.{_≡_, refl, sym, _∙_}
 use Prim.Native.Nat.{_≤_, _-_}
 use native.Mathlib.Omega.{arith}

@@ -1,4 +1,4 @@
--- `fields::number` meets its contract. The loop's invariant: v is the number that the bytes from i on make. Assumes nothing.
+-- `fields::number` meets its contract. The loop's invariant: v is the number that the bytes from i on make.
 use mathlib.Core.Path.{_≡_, sym, _∙_}
 use Prim.Native.Nat.{_≤_, _<_, _-_, _+_, _^_}
 use native.Mathlib.Omega.{arith}

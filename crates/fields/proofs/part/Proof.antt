@@ -1,4 +1,4 @@
--- `fields::part` meets its contract. Assumes nothing.
+-- `fields::part` meets its contract.
 use mathlib.Core.Path.{_≡_, sym, ap, _∙_}
 use mathlib.Core.Logic.{⊎-elim}
 use Prim.Native.Nat.{ℕ, _+_, _-_}

@@ -1,4 +1,4 @@
--- `fields::stands_at` meets its contract. Assumes nothing.
+-- `fields::stands_at` meets its contract.
 use mathlib.Core.Path.{sym}
 use native.Mathlib.Nat.{add-sub-cancel-left}
 use native.Mathlib.Omega.{arith}

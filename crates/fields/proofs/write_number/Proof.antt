@@ -1,4 +1,4 @@
--- `fields::write_number` meets its contract. The loop's invariant: what is left to be written makes the whole. Assumes nothing.
+-- `fields::write_number` meets its contract. The loop's invariant: what is left to be written makes the whole.
 use mathlib.Core.Path.{_≡_, refl}
 use Prim.Native.Nat.{_+_, _-_, _≤_}
 use native.Mathlib.Nat.{add-zero, sub-zero}

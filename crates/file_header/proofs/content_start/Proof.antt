@@ -1,4 +1,4 @@
--- `file_header::content_start` meets its contract. Assumes nothing.
+-- `file_header::content_start` meets its contract.
 use borrow.Author.Needs.{needs}
 use borrow.Author.Tests.{eq-eqb, ne-eqb}
 use Rattle.file_header.proofs.content_start.Statement.{statement}

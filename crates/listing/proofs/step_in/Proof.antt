@@ -4,7 +4,7 @@ use Prim.Native.Nat.{_+_}
 use native.Mathlib.Omega.{arith}
 use denote.Ref.{now}
 use Rattle.entries.specs.declared.Kind.the-variants.{Listing}
-use Rattle.chunk.specs.Chunk.{countOf}
+use Rattle.chunk.specs.Chunk.{entryCount}
 use Rattle.seek.specs.Seek.{nthIn}
 use Rattle.seek.specs.declared.Hit.the-variants.{At}
 use Rattle.book.specs.Book.{limitsOf, chunkBytes}
@@ -24,7 +24,7 @@ hit-is : (c : tie.After-entry-count) → let b = c .before .before .before in le
 hit-is c = sym (sought-is (c .before .before .before .before .before)) ∙ c .before .before .before .e .given .1
 
 count-is : (c : tie.After-entry-count) → let a = c .before .before .before .before .before .before .before .before .before .args in
-    c .entry-count .result ≡ countOf (chunkBytes (now (a .file)) (a .book) (a .at .chunk))
+    c .entry-count .result ≡ entryCount (chunkBytes (now (a .file)) (a .book) (a .at .chunk))
 count-is c = rw (← c .before .before .before .before .before .before .before .chunk-bytes .ensures) (c .entry-count .ensures)
 
 chunk-bytes-requires : tie.Need-chunk-bytes-requires

@@ -1,4 +1,4 @@
--- The proof of `descend`, which calls itself: the measure is the level. Assumes nothing.
+-- The proof of `descend`, which calls itself: the measure is the level.
 use mathlib.Core.Path.{_≡_, refl, sym, ap, _∙_}
 use mathlib.Core.Bool.{Bool, cond}
 use Prim.Native.Nat.{ℕ, _+_, _<_}
@@ -19,7 +19,7 @@ use Rattle.lookup.proofs.+descend.Lts-descend as descend-lts
 use Rattle.lookup.proofs.ask_index.Reads as ask-index-reads
 use Rattle.lookup.proofs.ask_listing.Reads as ask-listing-reads
 use Rattle.lookup.proofs.is_refusal.Reads as is-refusal-reads
-use Rattle.lookup.proofs.mark.Reads as mark-reads
+use Rattle.lookup.proofs.mark_trail.Reads as mark-reads
 use Rattle.refusals.proofs.refuse.Reads as refuse-reads
 use Rattle.lookup.proofs.+descend.{statement}
 use Rattle.lookup.proofs.+descend.Tie.{close}
@@ -91,7 +91,7 @@ descend-ask-listing-requires t c κs = search needs
 descend-is-refusal-requires : (t : ℕ) → descend-lts.Need-is-refusal-requires (callees t) (descend-at t) descend.Post
 descend-is-refusal-requires t c κs = search needs
 
-descend-mark-requires : (t : ℕ) → descend-lts.Need-mark-requires (callees t) (descend-at t) descend.Post
+descend-mark-requires : (t : ℕ) → descend-lts.Need-mark-trail-requires (callees t) (descend-at t) descend.Post
 descend-mark-requires t c κs =
     let f = c .before in
     let l = f .before in
@@ -102,7 +102,7 @@ descend-mark-requires t c κs =
     )
 
 descend-same-length : (t : ℕ) → descend-lts.Need-same-length (callees t) (descend-at t) descend.Post
-descend-same-length t c = c .before .before .mark .kept .1 .0
+descend-same-length t c = c .before .before .mark-trail .kept .1 .0
 
 descend-returns : (t : ℕ) → descend-lts.Need-returns (callees t) (descend-at t) descend.Post
 descend-returns t c =
@@ -111,7 +111,7 @@ descend-returns t c =
     let l = f .before in
     let a = l .before .before .before .before .before .args in
     at-listing (now (a .file)) (a .book) (now (a .name)) (a .c) (a .level) (a .i) (a .spent) (now (a .trail)) (l .ask-listing .result)
-    (now (a .trail)) (m .mark .last .1 .0) (m .mark .ensures ∙ ap (λ (x : Bool). cond x (now (a .trail)) (set (now (a .trail)) (a .i) (a .c))) (f .is-refusal .ensures))
+    (now (a .trail)) (m .mark-trail .last .1 .0) (m .mark-trail .ensures ∙ ap (λ (x : Bool). cond x (now (a .trail)) (set (now (a .trail)) (a .i) (a .c))) (f .is-refusal .ensures))
     (omega (arith, l .before .before .before .before .before .pre .1 .1)) (l .before .if1 .taken) refl (l .ask-listing .ensures)
 
 descend-ask-index-requires : (t : ℕ) → descend-lts.Need-ask-index-requires (callees t) (descend-at t) descend.Post
@@ -135,7 +135,7 @@ descend-descend-requires t c κs = let h = few-down t (c .before .before) in sea
 descend-is-refusal-requires-2 : (t : ℕ) → descend-lts.Need-is-refusal-requires-2 (callees t) (descend-at t) descend.Post
 descend-is-refusal-requires-2 t c κs = search needs
 
-descend-mark-requires-2 : (t : ℕ) → descend-lts.Need-mark-requires-2 (callees t) (descend-at t) descend.Post
+descend-mark-requires-2 : (t : ℕ) → descend-lts.Need-mark-trail-requires-2 (callees t) (descend-at t) descend.Post
 descend-mark-requires-2 t c κs =
     let k = c .before .before .before .before .before .before .before in
     let a = k .before .before .before .before .before .before .before .args in
@@ -147,7 +147,7 @@ descend-enum-known-count t c = search needs
 descend-add-total : (t : ℕ) → descend-lts.Need-add-total (callees t) (descend-at t) descend.Post
 descend-add-total t c = omega (arith, few-ends t (c .before))
 
-descend-mark-requires-3 : (t : ℕ) → descend-lts.Need-mark-requires-3 (callees t) (descend-at t) descend.Post
+descend-mark-requires-3 : (t : ℕ) → descend-lts.Need-mark-trail-requires-3 (callees t) (descend-at t) descend.Post
 descend-mark-requires-3 t c κs =
     let e = c .before .before in
     let a = e .before .before .before .before .before .before .before .args in

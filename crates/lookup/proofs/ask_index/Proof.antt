@@ -5,7 +5,7 @@ use borrow.Author.Needs.{needs}
 use Rattle.entries.specs.declared.Kind.the-variants.{Index}
 use Rattle.tree.specs.Shape.{indexChunk}
 use Rattle.book.specs.Book.{directoryOf, shapeOf}
-use Rattle.book.proofs.Meeting.{met-index, met-no-index}
+use Rattle.book.proofs.Checked.{checked-index, checked-no-index}
 use Rattle.lookup.proofs.Steps.{index-barred, index-down, index-ends}
 use Rattle.lookup.proofs.ask_index.Statement.{statement}
 use Rattle.lookup.proofs.ask_index.Tie as tie
@@ -16,10 +16,10 @@ is-index : (c : tie.After-enum-told)
 is-index c =
     let m = c .before .before in
     let a = m .before .before .before .args in
-    met-index (now (a .file)) (a .book) (a .c) (sym (m .met .ensures) ∙ c .enum-told .given .1) .0
+    checked-index (now (a .file)) (a .book) (a .c) (sym (m .checked-chunk .ensures) ∙ c .enum-told .given .1) .0
 
-met-requires : tie.Need-met-requires
-met-requires c κs = search needs
+checked-chunk-requires : tie.Need-checked-chunk-requires
+checked-chunk-requires c κs = search needs
 
 enum-told : tie.Need-enum-told
 enum-told c = search needs
@@ -30,7 +30,7 @@ returns c =
     let a = m .before .before .before .args in
     let s = now (a .file) in
     index-barred s (a .book) (now (a .name)) (a .c)
-    (met-no-index s (a .book) (a .c) (m .met .result) (m .met .ensures) (c .match .keys2))
+    (checked-no-index s (a .book) (a .c) (m .checked-chunk .result) (m .checked-chunk .ensures) (c .match .keys2))
 
 child-in-requires : tie.Need-child-in-requires
 child-in-requires c κs = search needs
@@ -54,4 +54,4 @@ returns-3 c =
     index-ends (now (a .file)) (a .book) (now (a .name)) (a .c) (is-index (f .before)) (f .child-in .result) (f .child-in .ensures) (c .enum-told2 .given .1)
 
 pub ask-index-spec : {M : Type 1} → statement M
-ask-index-spec = tie.close (tie.spec met-requires enum-told returns child-in-requires enum-known-child enum-told-2 returns-2 returns-3)
+ask-index-spec = tie.close (tie.spec checked-chunk-requires enum-told returns child-in-requires enum-known-child enum-told-2 returns-2 returns-3)

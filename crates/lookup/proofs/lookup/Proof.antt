@@ -3,7 +3,7 @@ use native.Mathlib.Omega.{arith}
 use denote.Ref.{now}
 use borrow.Author.Needs.{needs}
 use Rattle.fields.proofs.Tests.{held, failed}
-use Rattle.book.proofs.Laws.{fits-told}
+use Rattle.book.proofs.Laws.{record-fits-told}
 use Rattle.lookup.specs.declared.Answer.the-variants.{Refused}
 use Rattle.lookup.proofs.Promised.{name-bad, trail-short, record-bad, descended}
 use Rattle.lookup.proofs.lookup.Statement.{statement}
@@ -12,8 +12,8 @@ use Rattle.lookup.proofs.lookup.Tie as tie
 is-askable-requires : tie.Need-is-askable-requires
 is-askable-requires c κs = search needs
 
-fits-requires : tie.Need-fits-requires
-fits-requires c κs = search needs
+record-fits-requires : tie.Need-record-fits-requires
+record-fits-requires c κs = search needs
 
 refuse-requires : tie.Need-refuse-requires
 refuse-requires c κs = search needs
@@ -53,7 +53,7 @@ descend-requires c κs =
     let e = c .before .before in
     let f = e .before .before .before in
     let a = f .before .before .before .before .before .args in
-    let h = fits-told (now (a .file)) (a .book) (held (f .fits2 .ensures) (e .if3 .left)) in
+    let h = record-fits-told (now (a .file)) (a .book) (held (f .fits2 .ensures) (e .if3 .left)) in
     search needs
 
 same-length : tie.Need-same-length
@@ -74,7 +74,7 @@ lookup-spec =
     tie.close
     (tie.spec
     is-askable-requires
-    fits-requires
+    record-fits-requires
     refuse-requires
     returns
     refuse-requires-2

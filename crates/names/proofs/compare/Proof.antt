@@ -1,5 +1,4 @@
 -- `compare` meets its contract. The loop's invariant: what is left of the two names compares as the whole names do.
--- Assumes nothing.
 use mathlib.Core.Path.{_≡_, refl, sym, _∙_}
 use Prim.Native.Nat.{_+_, _-_, _≤_}
 use native.Mathlib.Omega.{arith}
@@ -19,14 +18,14 @@ abbrev μ-loop : tie.MeasureT-loop
 
 -- behind what the names have in common
 passed :
-    (c : tie.After-run Inv-loop μ-loop)
+    (c : tie.After-same-up-to Inv-loop μ-loop)
     → compared (c .before .before .before .before .before .args .a .now) (c .before .before .before .before .before .args .b .now)
-    ≡ compared (drop (c .run .result) (c .before .before .before .before .before .args .a .now)) (drop (c .run .result) (c .before .before .before .before .before .args .b .now))
+    ≡ compared (drop (c .same-up-to .result) (c .before .before .before .before .before .args .a .now)) (drop (c .same-up-to .result) (c .before .before .before .before .before .args .b .now))
 passed c =
     let l = c .before .loop in
-    let r = c .run .ensures in
-    let e : l .i + (c .run .result - l .i) ≡ c .run .result = omega (arith, r .0) in
-    l .inv .1 ∙ rw e at (alike-compares _ _ (l .i) (l .i) (c .run .result - l .i) (r .2))
+    let r = c .same-up-to .ensures in
+    let e : l .i + (c .same-up-to .result - l .i) ≡ c .same-up-to .result = omega (arith, r .0) in
+    l .inv .1 ∙ rw e at (alike-compares _ _ (l .i) (l .i) (c .same-up-to .result - l .i) (r .2))
 
 shorter-requires : tie.Need-shorter-requires Inv-loop μ-loop
 shorter-requires c κs = tt
@@ -34,19 +33,19 @@ shorter-requires c κs = tt
 loop-holds : tie.Need-loop-holds Inv-loop μ-loop
 loop-holds c = (omega arith, refl)
 
-run-requires : tie.Need-run-requires Inv-loop μ-loop
-run-requires c κs = (omega arith, omega arith, omega arith)
+same-up-to-requires : tie.Need-same-up-to-requires Inv-loop μ-loop
+same-up-to-requires c κs = (omega arith, omega arith, omega arith)
 
 returns : tie.Need-returns Inv-loop μ-loop
 returns c =
     let p = c .before .before in
-    sym (passed p ∙ second-ends _ _ (p .run .result) (omega arith) (omega (arith, p .before .before .shorter .ensures .2 (omega arith))))
+    sym (passed p ∙ second-ends _ _ (p .same-up-to .result) (omega arith) (omega (arith, p .before .before .shorter .ensures .2 (omega arith))))
 
 returns-2 : tie.Need-returns-2 Inv-loop μ-loop
-returns-2 c = let p = c .before .before .before in sym (passed p ∙ first-ends _ _ (p .run .result) (omega arith) (omega arith))
+returns-2 c = let p = c .before .before .before in sym (passed p ∙ first-ends _ _ (p .same-up-to .result) (omega arith) (omega arith))
 
 returns-3 : tie.Need-returns-3 Inv-loop μ-loop
-returns-3 c = let p = c .before .before .before in sym (passed p ∙ both-end _ _ (p .run .result) (omega arith) (omega arith))
+returns-3 c = let p = c .before .before .before in sym (passed p ∙ both-end _ _ (p .same-up-to .result) (omega arith) (omega arith))
 
 shared-slice-read-fold : tie.Need-shared-slice-read-fold Inv-loop μ-loop
 shared-slice-read-fold c = omega arith
@@ -61,10 +60,10 @@ fold-requires-2 : tie.Need-fold-requires-2 Inv-loop μ-loop
 fold-requires-2 c κs = tt
 
 returns-4 : tie.Need-returns-4 Inv-loop μ-loop
-returns-4 c = let p = c .before .before .before .before .before .before in sym (passed p ∙ turn _ _ (p .run .result) Less (omega arith) (omega arith) (omega arith))
+returns-4 c = let p = c .before .before .before .before .before .before in sym (passed p ∙ turn _ _ (p .same-up-to .result) Less (omega arith) (omega arith) (omega arith))
 
 returns-5 : tie.Need-returns-5 Inv-loop μ-loop
-returns-5 c = let p = c .before .before .before .before .before .before .before in sym (passed p ∙ turn _ _ (p .run .result) Greater (omega arith) (omega arith) (omega arith))
+returns-5 c = let p = c .before .before .before .before .before .before .before in sym (passed p ∙ turn _ _ (p .same-up-to .result) Greater (omega arith) (omega arith) (omega arith))
 
 add-i : tie.Need-add-i Inv-loop μ-loop
 add-i c = omega arith
@@ -75,7 +74,7 @@ loop-less c = omega arith
 loop-again : tie.Need-loop-again Inv-loop μ-loop
 loop-again c =
     let p = c .before .before .before .before .before .before .before in
-    (omega arith, passed p ∙ turn _ _ (p .run .result) Equal (omega arith) (omega arith) (omega arith))
+    (omega arith, passed p ∙ turn _ _ (p .same-up-to .result) Equal (omega arith) (omega arith) (omega arith))
 
 pub compare-spec : {M : Type 1} → statement M
 compare-spec =
@@ -85,7 +84,7 @@ compare-spec =
     μ-loop
     shorter-requires
     loop-holds
-    run-requires
+    same-up-to-requires
     returns
     returns-2
     returns-3

@@ -1,5 +1,4 @@
 -- `fold` meets its contract: each way out settles the two tests of the definition.
--- Assumes nothing.
 use native.Mathlib.Omega.{arith}
 use borrow.Author.Needs.{needs}
 use borrow.Author.Tests.{le-leb, lt-leb}

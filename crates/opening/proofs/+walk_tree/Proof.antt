@@ -6,12 +6,12 @@ use mathlib.Core.List.{List, []}
 use native.Mathlib.Omega.{arith}
 use denote.Ref.{now}
 use Rattle.fields.proofs.Tests.{held, failed}
-use Rattle.chunk.specs.Chunk.{Entry, countOf, entriesIn}
-use Rattle.tree.specs.Walk.{going, visit, intoChild, walk}
+use Rattle.chunk.specs.Chunk.{Entry, entryCount, entriesIn}
+use Rattle.tree.specs.Walk.{going, visit, intoChild, walkTree}
 use Rattle.tree.proofs.Steps.{walk-none, leaf-other, index-none, index-not, index-enter}
 use Rattle.book.specs.Book.{chunkBytes, directoryOf, shapeOf}
-use Rattle.opening.specs.Passes.{progressOf, childAt}
-use Rattle.opening.specs.declared.Child.the-variants.{Named, Other}
+use Rattle.opening.specs.Passes.{progressOf, namedChild}
+use Rattle.opening.specs.declared.NamedChild.the-variants.{Named, Other}
 use Rattle.tree.proofs.Chunks.{index-chunk}
 use Rattle.opening.proofs.Visits.{Left, Visited, all-left, none-left, visited, stopped-is, going-is, leaf-is}
 use borrow.Fn.Kinds.{In}
@@ -20,7 +20,7 @@ use Rattle.opening.proofs.walk_tree.Reads as walk-tree
 use Rattle.opening.proofs.walk_tree.Kinds as walk-tree-kinds
 use Rattle.opening.proofs.+walk_tree.Lts-walk_tree as walk-tree-lts
 use Rattle.book.proofs.chunk_bytes.Reads as chunk-bytes-reads
-use Rattle.opening.proofs.child_at.Reads as child-at-reads
+use Rattle.opening.proofs.named_child.Reads as child-at-reads
 use Rattle.opening.proofs.is_index.Reads as is-index-reads
 use Rattle.opening.proofs.leaf.Reads as leaf-reads
 use Rattle.chunk.proofs.first_place.Reads as first-place-reads
@@ -45,7 +45,7 @@ callees t =
 abbrev walk-tree-Inv-loop : walk-tree-lts.InvT-loop
 walk-tree-Inv-loop file book level c expected left at₀ rest₀ next₀ k₀ at rest next k =
     (xs : List Entry) × Left file book c rest at xs
-    × (visit (intoChild (directoryOf file book) (walk (directoryOf file book) (shapeOf book) (level - 1))) xs next k ≡ walk (directoryOf file book) (shapeOf book) level c expected left)
+    × (visit (intoChild (directoryOf file book) (walkTree (directoryOf file book) (shapeOf book) (level - 1))) xs next k ≡ walkTree (directoryOf file book) (shapeOf book) level c expected left)
 
 abbrev walk-tree-μ-loop : walk-tree-lts.MeasureT-loop
 walk-tree-μ-loop file book level c expected left at₀ rest₀ next₀ k₀ at rest next k = rest
@@ -108,14 +108,14 @@ walk-tree-loop-holds t c =
     let i = f .before .before in
     let a = i .before .before .before .before .before .args in
     let h = held (i .is-index .ensures) (f .before .if5 .left) in
-    let q : c .entry-count .result ≡ countOf (chunkBytes (now (a .file)) (a .book) (a .c)) = rw (← b .chunk-bytes .ensures) (c .entry-count .ensures) in (
+    let q : c .entry-count .result ≡ entryCount (chunkBytes (now (a .file)) (a .book) (a .c)) = rw (← b .chunk-bytes .ensures) (c .entry-count .ensures) in (
       entriesIn (directoryOf (now (a .file)) (a .book) (a .c)),
       subst₂ (λ (n m : ℕ). Left (now (a .file)) (a .book) (a .c) n m (entriesIn (directoryOf (now (a .file)) (a .book) (a .c)))) (sym q) (sym (f .first-place .ensures))
           (all-left (now (a .file)) (a .book) (a .c) (index-chunk (directoryOf (now (a .file)) (a .book)) (shapeOf (a .book)) (a .c) h .1)),
       index-enter (directoryOf (now (a .file)) (a .book)) (shapeOf (a .book)) (a .level) (a .c) (a .expected) (a .left) (above-one (a .level) (i .before .before .before .if1 .left) (i .before .before .if2 .left)) (some (a .left) (i .before .if4 .left)) h,
     )
 
-walk-tree-child-at-requires : (t : ℕ) → walk-tree-lts.Need-child-at-requires (callees t) (walk-tree-at t) walk-tree.Post walk-tree-Inv-loop walk-tree-μ-loop
+walk-tree-child-at-requires : (t : ℕ) → walk-tree-lts.Need-named-child-requires (callees t) (walk-tree-at t) walk-tree.Post walk-tree-Inv-loop walk-tree-μ-loop
 walk-tree-child-at-requires t c κs = search needs
 
 walk-tree-enum-known-child : (t : ℕ) → walk-tree-lts.Need-enum-known-child (callees t) (walk-tree-at t) walk-tree.Post walk-tree-Inv-loop walk-tree-μ-loop
@@ -129,9 +129,9 @@ walk-tree-returns-6 t c =
     let k = c .before .before in
     let l = k .before .before in
     let a = l .before .before .before .before .before .before .before .before .before .before .args in
-    let f = walk (directoryOf (now (a .file)) (a .book)) (shapeOf (a .book)) (a .level - 1) in
+    let f = walkTree (directoryOf (now (a .file)) (a .book)) (shapeOf (a .book)) (a .level - 1) in
     let v = visited (now (a .file)) (a .book) (a .c) f (l .loop .at) (l .loop .inv .0) (l .loop .next) (l .loop .k) (l .loop .rest) (k .before .loop-test .taken) (l .loop .inv .1) in
-    let w = subst (Visited (now (a .file)) (a .book) (a .c) f (l .loop .at) (l .loop .inv .0) (l .loop .next) (l .loop .k) (l .loop .rest - 1)) (sym (k .child-at .ensures) ∙ c .enum-told .given .1) v in
+    let w = subst (Visited (now (a .file)) (a .book) (a .c) f (l .loop .at) (l .loop .inv .0) (l .loop .next) (l .loop .k) (l .loop .rest - 1)) (sym (k .named-child .ensures) ∙ c .enum-told .given .1) v in
     ap progressOf (sym w ∙ l .loop .inv .2)
 
 walk-tree-sub-walk-tree : (t : ℕ) → walk-tree-lts.Need-sub-walk-tree (callees t) (walk-tree-at t) walk-tree.Post walk-tree-Inv-loop walk-tree-μ-loop
@@ -151,10 +151,10 @@ walk-tree-returns-7 t c =
     let k = c .before .before .before .before .before .before in
     let l = k .before .before in
     let a = l .before .before .before .before .before .before .before .before .before .before .args in
-    let f = walk (directoryOf (now (a .file)) (a .book)) (shapeOf (a .book)) (a .level - 1) in
+    let f = walkTree (directoryOf (now (a .file)) (a .book)) (shapeOf (a .book)) (a .level - 1) in
     let v = visited (now (a .file)) (a .book) (a .c) f (l .loop .at) (l .loop .inv .0) (l .loop .next) (l .loop .k) (l .loop .rest) (k .before .loop-test .taken) (l .loop .inv .1) in
     let g = c .before .before .before .before in
-    let w = subst (Visited (now (a .file)) (a .book) (a .c) f (l .loop .at) (l .loop .inv .0) (l .loop .next) (l .loop .k) (l .loop .rest - 1)) (sym (k .child-at .ensures) ∙ g .child .given .1) v in
+    let w = subst (Visited (now (a .file)) (a .book) (a .c) f (l .loop .at) (l .loop .inv .0) (l .loop .next) (l .loop .k) (l .loop .rest - 1)) (sym (k .named-child .ensures) ∙ g .child .given .1) v in
     let z = stopped-is (f (g .child .given .0 .0) (l .loop .next) (l .loop .k)) (sym (c .enum-told2 .given .1) ∙ c .before .before .walk-tree .ensures) in
     ap progressOf (sym (rw z at (w .2)) ∙ l .loop .inv .2)
 
@@ -169,10 +169,10 @@ walk-tree-loop-again t c =
     let k = c .before .before .before .before .before .before .before in
     let l = k .before .before in
     let a = l .before .before .before .before .before .before .before .before .before .before .args in
-    let f = walk (directoryOf (now (a .file)) (a .book)) (shapeOf (a .book)) (a .level - 1) in
+    let f = walkTree (directoryOf (now (a .file)) (a .book)) (shapeOf (a .book)) (a .level - 1) in
     let v = visited (now (a .file)) (a .book) (a .c) f (l .loop .at) (l .loop .inv .0) (l .loop .next) (l .loop .k) (l .loop .rest) (k .before .loop-test .taken) (l .loop .inv .1) in
     let g = c .before .before .before .before .before in
-    let w = subst (Visited (now (a .file)) (a .book) (a .c) f (l .loop .at) (l .loop .inv .0) (l .loop .next) (l .loop .k) (l .loop .rest - 1)) (sym (k .child-at .ensures) ∙ g .child .given .1) v in
+    let w = subst (Visited (now (a .file)) (a .book) (a .c) f (l .loop .at) (l .loop .inv .0) (l .loop .next) (l .loop .k) (l .loop .rest - 1)) (sym (k .named-child .ensures) ∙ g .child .given .1) v in
     let z = going-is (f (g .child .given .0 .0) (l .loop .next) (l .loop .k)) (c .before .e .given .0 .0) (c .before .e .given .0 .1 .0) (sym (c .before .e .given .1) ∙ c .before .before .before .walk-tree .ensures) in
     (w .0, w .1, sym (rw z at (w .2)) ∙ l .loop .inv .2)
 
@@ -180,7 +180,7 @@ walk-tree-returns-8 : (t : ℕ) → walk-tree-lts.Need-returns-8 (callees t) (wa
 walk-tree-returns-8 t c =
     let l = c .before in
     let a = l .before .before .before .before .before .before .before .before .before .before .args in
-    let f = walk (directoryOf (now (a .file)) (a .book)) (shapeOf (a .book)) (a .level - 1) in
+    let f = walkTree (directoryOf (now (a .file)) (a .book)) (shapeOf (a .book)) (a .level - 1) in
     let z = none-left (now (a .file)) (a .book) (a .c) (l .loop .rest) (l .loop .at) (l .loop .inv .0) (omega arith) (l .loop .inv .1) in
     ap progressOf (sym (ap (λ (ys : List Entry). visit (intoChild (directoryOf (now (a .file)) (a .book)) f) ys (l .loop .next) (l .loop .k)) z) ∙ l .loop .inv .2)
 

@@ -3,7 +3,7 @@ use mathlib.Core.Path.{_≡_, sym, ap, _∙_}
 use denote.Ref.{now}
 use Rattle.header.specs.Header.{headerOf}
 use Rattle.header.specs.declared.CheckedHeader.the-variants.{Good}
-use Rattle.header.proofs.Accepted.{accepted}
+use Rattle.header.proofs.Accepted.{header-accepted}
 use Rattle.opening.specs.Opened.{opened}
 use Rattle.opening.specs.declared.Opened.the-variants.{Refused}
 use Rattle.opening.proofs.open.Statement.{statement}
@@ -19,7 +19,7 @@ enum-known-book : tie.Need-enum-known-book
 enum-known-book c = search needs
 
 open-chunks-requires : tie.Need-open-chunks-requires
-open-chunks-requires c κs = accepted _ _ (head-is (c .before)) .count-high
+open-chunks-requires c κs = header-accepted _ _ (head-is (c .before)) .count-high
 
 enum-known-number : tie.Need-enum-known-number
 enum-known-number c = search needs

@@ -7,7 +7,7 @@ use denote.Ref.{now}
 use Rattle.chunk.specs.Answer.{chunkOf}
 use Rattle.book.specs.Book.{directoryOf}
 use Rattle.opening.specs.Passes.{surveyed}
-use Rattle.book.proofs.Meeting.{met-inside}
+use Rattle.book.proofs.Checked.{checked-inside}
 use Rattle.opening.proofs.Surveys.{survey-fault, survey-end, survey-listing, survey-index}
 use Rattle.opening.proofs.survey_chunks.Statement.{statement}
 use Rattle.opening.proofs.survey_chunks.Tie as tie
@@ -20,15 +20,15 @@ abbrev μ-loop : tie.MeasureT-loop
 μ-loop file book total listings₀ c₀ listings c = book .count - c
 
 -- the check's answer, in terms of the directory
-met-is : (c : tie.After-met Inv-loop μ-loop) → let l = c .before .before in let a = l .before .before .args in
-    chunkOf (directoryOf (now (a .file)) (a .book) (l .loop .c)) ≡ c .met .result
+met-is : (c : tie.After-checked-chunk Inv-loop μ-loop) → let l = c .before .before in let a = l .before .before .args in
+    chunkOf (directoryOf (now (a .file)) (a .book) (l .loop .c)) ≡ c .checked-chunk .result
 met-is c =
     let l = c .before .before in
     let a = l .before .before .args in
-    sym (c .met .ensures ∙ met-inside (now (a .file)) (a .book) (l .loop .c) (omega arith))
+    sym (c .checked-chunk .ensures ∙ checked-inside (now (a .file)) (a .book) (l .loop .c) (omega arith))
 
 -- with one chunk less to go
-one-less : (c : tie.After-met Inv-loop μ-loop) → let l = c .before .before in let a = l .before .before .args in
+one-less : (c : tie.After-checked-chunk Inv-loop μ-loop) → let l = c .before .before in let a = l .before .before .args in
     a .book .count - (l .loop .c + 1) ≡ a .book .count - l .loop .c - 1
 one-less c = omega arith
 
@@ -38,8 +38,8 @@ loop-holds c = (omega arith, omega arith, rw sub-zero refl)
 add-c : tie.Need-add-c Inv-loop μ-loop
 add-c c = search needs
 
-met-requires : tie.Need-met-requires Inv-loop μ-loop
-met-requires c κs = search needs
+checked-chunk-requires : tie.Need-checked-chunk-requires Inv-loop μ-loop
+checked-chunk-requires c κs = search needs
 
 enum-known-n : tie.Need-enum-known-n Inv-loop μ-loop
 enum-known-n c = search needs
@@ -108,7 +108,7 @@ survey-chunks-spec =
     μ-loop
     loop-holds
     add-c
-    met-requires
+    checked-chunk-requires
     enum-known-n
     cast-t10
     returns

@@ -4,7 +4,7 @@ use mathlib.Core.Path.{_≡_, sym, ap, _∙_}
 use denote.Ref.{now}
 use Rattle.refusals.specs.Refusals.{noChunk}
 use Rattle.tree.specs.Tree.{top}
-use Rattle.tree.specs.Walk.{arrived, walk}
+use Rattle.tree.specs.Walk.{arrived, walkTree}
 use Rattle.book.specs.Book.{directoryOf, shapeOf}
 use Rattle.opening.specs.Passes.{progressOf}
 use Rattle.opening.proofs.Visits.{stopped-is, going-is}
@@ -13,7 +13,7 @@ use Rattle.opening.proofs.tree_right.Tie as tie
 
 -- the walk's answer, from the top
 walked : (c : tie.After-walk-tree) → let a = c .before .before .before .args in
-    c .walk-tree .result ≡ progressOf (walk (directoryOf (now (a .file)) (a .book)) (shapeOf (a .book)) (a .book .depth) (top (shapeOf (a .book))) (a .book .first) (a .indexes))
+    c .walk-tree .result ≡ progressOf (walkTree (directoryOf (now (a .file)) (a .book)) (shapeOf (a .book)) (a .book .depth) (top (shapeOf (a .book))) (a .book .first) (a .indexes))
 walked c = rw (← c .before .top-chunk .ensures) (c .walk-tree .ensures)
 
 top-chunk-requires : tie.Need-top-chunk-requires
@@ -37,19 +37,19 @@ cast-if1 c = search needs
 returns : tie.Need-returns
 returns c =
     let a = c .before .before .before .before .before .args in
-    rw (stopped-is (walk (directoryOf (now (a .file)) (a .book)) (shapeOf (a .book)) (a .book .depth) (top (shapeOf (a .book))) (a .book .first) (a .indexes)) (sym (c .enum-told .given .1) ∙ walked (c .before .before)))
+    rw (stopped-is (walkTree (directoryOf (now (a .file)) (a .book)) (shapeOf (a .book)) (a .book .depth) (top (shapeOf (a .book))) (a .book .first) (a .indexes)) (sym (c .enum-told .given .1) ∙ walked (c .before .before)))
 
 returns-2 : tie.Need-returns-2
 returns-2 c =
     let e = c .before .before .before in
     let a = e .before .before .before .before .before .args in
-    rw (going-is (walk (directoryOf (now (a .file)) (a .book)) (shapeOf (a .book)) (a .book .depth) (top (shapeOf (a .book))) (a .book .first) (a .indexes)) (e .expected .given .0 .0) (e .expected .given .0 .1 .0) (sym (e .expected .given .1) ∙ walked (e .before .before)), eq-eqb _ noChunk (c .if1 .taken ∙ c .before .no-chunk .ensures))
+    rw (going-is (walkTree (directoryOf (now (a .file)) (a .book)) (shapeOf (a .book)) (a .book .depth) (top (shapeOf (a .book))) (a .book .first) (a .indexes)) (e .expected .given .0 .0) (e .expected .given .0 .1 .0) (sym (e .expected .given .1) ∙ walked (e .before .before)), eq-eqb _ noChunk (c .if1 .taken ∙ c .before .no-chunk .ensures))
 
 returns-3 : tie.Need-returns-3
 returns-3 c =
     let e = c .before .before .before in
     let a = e .before .before .before .before .before .args in
-    rw (going-is (walk (directoryOf (now (a .file)) (a .book)) (shapeOf (a .book)) (a .book .depth) (top (shapeOf (a .book))) (a .book .first) (a .indexes)) (e .expected .given .0 .0) (e .expected .given .0 .1 .0) (sym (e .expected .given .1) ∙ walked (e .before .before)), ne-eqb _ noChunk (λ q. c .if1 .left (q ∙ sym (c .before .no-chunk .ensures))))
+    rw (going-is (walkTree (directoryOf (now (a .file)) (a .book)) (shapeOf (a .book)) (a .book .depth) (top (shapeOf (a .book))) (a .book .first) (a .indexes)) (e .expected .given .0 .0) (e .expected .given .0 .1 .0) (sym (e .expected .given .1) ∙ walked (e .before .before)), ne-eqb _ noChunk (λ q. c .if1 .left (q ∙ sym (c .before .no-chunk .ensures))))
 
 pub tree-right-spec : {M : Type 1} → statement M
 tree-right-spec =

@@ -1,4 +1,4 @@
--- `pack::fill` meets its contract. The loop's invariant: what is taken, with what is yet to be taken, is the whole. Assumes nothing.
+-- `pack::fill` meets its contract. The loop's invariant: what is taken, with what is yet to be taken, is the whole.
 use mathlib.Core.Path.{_≡_, refl, sym, _∙_}
 use Prim.Native.Nat.{_≤_}
 use native.Mathlib.Omega.{arith}

@@ -1,4 +1,4 @@
--- `pack::next_fit` meets its contract. Assumes nothing.
+-- `pack::next_fit` meets its contract.
 use mathlib.Core.Path.{_≡_, sym, _∙_}
 use Prim.Native.Nat.{_≤_}
 use native.Mathlib.Omega.{arith}
@@ -50,8 +50,8 @@ entry-size-requires c κs = search needs
 add-bytes : tie.Need-add-bytes
 add-bytes c = omega (arith, small (c .before), c .before .before .before .before .before .before .if1 .left)
 
-fits-requires : tie.Need-fits-requires
-fits-requires c κs = search needs
+fits-chunk-requires : tie.Need-fits-chunk-requires
+fits-chunk-requires c κs = search needs
 
 returns-3 : tie.Need-returns-3
 returns-3 c =
@@ -74,6 +74,6 @@ next-fit-spec =
     returns-2
     entry-size-requires
     add-bytes
-    fits-requires
+    fits-chunk-requires
     returns-3
     returns-4)

@@ -14,8 +14,8 @@ use Rattle.scan.proofs.scan.Tie as tie
 is-askable-requires : tie.Need-is-askable-requires
 is-askable-requires c κs = search needs
 
-fits-requires : tie.Need-fits-requires
-fits-requires c κs = search needs
+record-fits-requires : tie.Need-record-fits-requires
+record-fits-requires c κs = search needs
 
 refuse-requires : tie.Need-refuse-requires
 refuse-requires c κs = search needs
@@ -59,4 +59,4 @@ returns-3 c =
 pub scan-spec : {M : Type 1} → statement M
 scan-spec =
     tie.close
-    (tie.spec is-askable-requires fits-requires refuse-requires returns refuse-requires-2 returns-2 scan-chain-requires returns-3)
+    (tie.spec is-askable-requires record-fits-requires refuse-requires returns refuse-requires-2 returns-2 scan-chain-requires returns-3)

@@ -14,6 +14,7 @@ use Rattle.entries.specs.Entry.{nameAt, indexAt, itemAt, withItem}
 use Rattle.entries.specs.declared.Item.the-variants.{Good}
 use Rattle.entries.proofs.Laws.{name-next, index-broken, index-wide, index-whole}
 use Rattle.entries.specs.declared.Kind.the-variants.{Index}
+use Rattle.chunk.specs.Chunk.{countPlace}
 use Rattle.seek.specs.Seek.{groupAt, groupIn, sizeIn, chooseIn, childOf}
 use Rattle.seek.specs.Count.{halvingsIn, costIn}
 use Rattle.seek.specs.declared.CountedHit.{CountedHit}
@@ -52,7 +53,7 @@ room l left h =
     let c = l .before in
     let a = c .before .before .before .args in
     spent-fits (a .limits) Index (now (a .c)) (compared (now (a .name))) _ _ (c .group-for .ensures .1) (c .group-for .ensures .2)
-    (le-lt (now (a .c)) (λ j. c .before .before .shared-slice-known .given j .fits) 2 4094) left (omega (arith, h, l .loop .inv .3))
+    (le-lt (now (a .c)) (λ j. c .before .before .shared-slice-known .given j .fits) 2 countPlace) left (omega (arith, h, l .loop .inv .3))
 
 -- the child of what was chosen, beside the count
 abbrev childFrom : CountedHit → CountedChild

@@ -10,6 +10,7 @@ use Rattle.entries.specs.Entry.{itemAt, nameOf}
 use Rattle.entries.specs.declared.Item.the-variants.{Good, Bad}
 use Rattle.entries.proofs.Laws.{Inside, item-inside}
 use Rattle.entries.specs.declared.Kind.the-variants.{Listing}
+use Rattle.chunk.specs.Chunk.{countPlace}
 use Rattle.seek.specs.Seek.{groupAt, groupIn, sizeIn, findIn}
 use Rattle.seek.specs.Count.{halvingsIn, costIn}
 use Rattle.seek.specs.declared.CountedHit.{CountedHit}
@@ -43,7 +44,7 @@ room l left h =
     let c = l .before in
     let a = c .before .before .before .args in
     spent-fits (a .limits) Listing (now (a .c)) (compared (now (a .name))) _ _ (c .group-for .ensures .1) (c .group-for .ensures .2)
-    (le-lt (now (a .c)) (λ j. c .before .before .shared-slice-known .given j .fits) 2 4094) left (omega (arith, h, l .loop .inv .0))
+    (le-lt (now (a .c)) (λ j. c .before .before .shared-slice-known .given j .fits) 2 countPlace) left (omega (arith, h, l .loop .inv .0))
 
 -- the search ends
 ended : (n m : ℕ) (h : Hit) (w : CountedHit) → n ≡ m → record { hit = h; count = m } ≡ w → record { hit = h; count = n } ≡ w

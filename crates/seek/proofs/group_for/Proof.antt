@@ -6,7 +6,7 @@ use native.Mathlib.Omega.{arith}
 use lib.ListN.{length}
 use denote.Ref.{now}
 use Rattle.names.specs.Names.{compared}
-use Rattle.chunk.specs.Chunk.{countOf, spacingOf}
+use Rattle.chunk.specs.Chunk.{entryCount, spacingOf, countPlace}
 use Rattle.chunk.proofs.Quick.{capped}
 use Rattle.seek.specs.Seek.{groupAt, groupAbove, halved, groupIn, sizeIn}
 use Rattle.seek.specs.Count.{halvings, halvingsIn}
@@ -33,7 +33,7 @@ returns c =
     rw (z .0, z .1) (c .first-place .ensures, omega (arith, t .before .entry-count .ensures), refl)
 
 -- the chunk has its count
-has-count : (c : tie.Else1) → 4094 < length (now (c .before .before .before .before .args .c))
+has-count : (c : tie.Else1) → countPlace < length (now (c .before .before .before .before .args .c))
 has-count c = counted (now (c .before .before .before .before .args .c)) (omega (arith, c .before .entry-count .ensures, c .if1 .left))
 
 spacing-requires : tie.Need-spacing-requires
@@ -75,9 +75,9 @@ chosen c =
     let d = a .limits .density in
     let above = groupAbove (a .kind) (now (a .c)) (compared (now (a .name))) in
     let h = o .group-of .result .group in
-    let total : t .entry-count .result ≡ countOf (now (a .c)) = t .entry-count .ensures in
-    let q : (t .entry-count .result - 1) / p .result ≡ (countOf (now (a .c)) - 1) / spacingOf d =
-    rw (p .ensures, total) (capped d .words (countOf (now (a .c)) - 1) (omega arith)) in
+    let total : t .entry-count .result ≡ entryCount (now (a .c)) = t .entry-count .ensures in
+    let q : (t .entry-count .result - 1) / p .result ≡ (entryCount (now (a .c)) - 1) / spacingOf d =
+    rw (p .ensures, total) (capped d .words (entryCount (now (a .c)) - 1) (omega arith)) in
     let g : h ≡ groupIn (a .limits) (a .kind) (now (a .c)) (compared (now (a .name))) =
     o .group-of .ensures .0 ∙ ap (λ (i : ℕ). halved above i 0 i) q in
     let m : h * p .result ≡ h * spacingOf d =

@@ -1,4 +1,4 @@
--- `source::step` meets its contract. Assumes nothing.
+-- `source::step` meets its contract.
 use mathlib.Core.Path.{_∙_}
 use native.Mathlib.Omega.{arith}
 use Rattle.source.specs.Source.{itemFrom}
@@ -19,8 +19,8 @@ listing-at-requires c κs = search needs
 enum-told-2 : tie.Need-enum-told-2
 enum-told-2 c = search needs
 
-child-at-requires : tie.Need-child-at-requires
-child-at-requires c κs = search needs
+child-entry-requires : tie.Need-child-entry-requires
+child-entry-requires c κs = search needs
 
 returns-2 : tie.Need-returns-2
 unfolding itemFrom
@@ -28,7 +28,7 @@ returns-2 c = let i = c .before in rw (i .enum-told .given .1) (c .listing-at .e
 
 returns-3 : tie.Need-returns-3
 unfolding itemFrom
-returns-3 c = let i = c .before in rw (i .enum-told2 .given .1) (c .child-at .ensures ∙ taken-some _ _ (i .before .before .if1 .left))
+returns-3 c = let i = c .before in rw (i .enum-told2 .given .1) (c .child-entry .ensures ∙ taken-some _ _ (i .before .before .if1 .left))
 
 pub step-spec : {M : Type 1} → statement M
-step-spec = tie.close (tie.spec returns enum-told listing-at-requires enum-told-2 child-at-requires returns-2 returns-3)
+step-spec = tie.close (tie.spec returns enum-told listing-at-requires enum-told-2 child-entry-requires returns-2 returns-3)

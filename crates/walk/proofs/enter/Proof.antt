@@ -5,10 +5,10 @@ use Prim.Native.Nat.{ℕ, _-_}
 use native.Mathlib.Omega.{arith}
 use denote.Ref.{now}
 use Rattle.entries.specs.declared.Kind.{Kind}
-use Rattle.chunk.specs.Chunk.{headOf, countOf}
+use Rattle.chunk.specs.Chunk.{firstPlace, entryCount}
 use Rattle.chunk.specs.declared.Chunk.the-variants.{Listing}
-use Rattle.book.specs.Book.{chunkBytes, metChunk}
-use Rattle.book.proofs.Meeting.{met-listing, met-index, met-refused}
+use Rattle.book.specs.Book.{chunkBytes, checkedChunk}
+use Rattle.book.proofs.Checked.{checked-listing, checked-index, checked-refused}
 use Rattle.book.proofs.Read.{entries-length}
 use Rattle.walk.specs.Walk.{isOver}
 use Rattle.walk.specs.declared.Entered.the-variants.{Inside}
@@ -21,11 +21,11 @@ on : (c : tie.Else2) → let a = c .before .before .before .before .before .args
 on c = sym (c .before .is-over .ensures) ∙ c .if2 .left
 
 met-is : (c : tie.After-next) → let a = c .before .before .before .before .before .before .before .before .before .before .args in
-    metChunk (now (a .file)) (a .book) (a .w .next) ≡ Listing (c .next .given .0 .0) (c .next .given .0 .1 .0)
-met-is c = sym (c .before .before .met .ensures) ∙ c .next .given .1
+    checkedChunk (now (a .file)) (a .book) (a .w .next) ≡ Listing (c .next .given .0 .0) (c .next .given .0 .1 .0)
+met-is c = sym (c .before .before .checked-chunk .ensures) ∙ c .next .given .1
 
 count-is : (c : tie.After-entry-count) → let a = c .before .before .before .before .before .before .before .before .before .before .before .before .before .before .args in
-    c .entry-count .result ≡ countOf (chunkBytes (now (a .file)) (a .book) (a .w .next))
+    c .entry-count .result ≡ entryCount (chunkBytes (now (a .file)) (a .book) (a .w .next))
 count-is c = rw (← c .before .chunk-bytes .ensures) (c .entry-count .ensures)
 
 returns : tie.Need-returns
@@ -45,8 +45,8 @@ returns-3 c =
     let a = e .before .before .before .before .before .args in
     sym (enter-none (now (a .file)) (a .book) (a .w) (e .before .before .if1 .left) (on e) (omega arith))
 
-met-requires : tie.Need-met-requires
-met-requires c κs = search needs
+checked-chunk-requires : tie.Need-checked-chunk-requires
+checked-chunk-requires c κs = search needs
 
 enum-known-next : tie.Need-enum-known-next
 enum-known-next c = search needs
@@ -63,7 +63,7 @@ returns-4 c =
     let e = m .before .before .before in
     let a = e .before .before .before .before .before .args in
     sym (enter-barred (now (a .file)) (a .book) (a .w) (e .before .before .if1 .left) (on e)
-    (met-index (now (a .file)) (a .book) (a .w .next) (sym (m .met .ensures) ∙ c .enum-told .given .1) .1))
+    (checked-index (now (a .file)) (a .book) (a .w .next) (sym (m .checked-chunk .ensures) ∙ c .enum-told .given .1) .1))
 
 enum-told-2 : tie.Need-enum-told-2
 enum-told-2 c = search needs
@@ -74,7 +74,7 @@ returns-5 c =
     let e = m .before .before .before in
     let a = e .before .before .before .before .before .args in
     sym (enter-barred (now (a .file)) (a .book) (a .w) (e .before .before .if1 .left) (on e)
-    (met-refused (now (a .file)) (a .book) (a .w .next) _ (sym (m .met .ensures) ∙ c .enum-told2 .given .1) .1))
+    (checked-refused (now (a .file)) (a .book) (a .w .next) _ (sym (m .checked-chunk .ensures) ∙ c .enum-told2 .given .1) .1))
 
 first-place-requires : tie.Need-first-place-requires
 first-place-requires c κs = search needs
@@ -95,9 +95,9 @@ returns-6 c =
     let m = n .before .before in
     let e = m .before .before .before in
     let a = e .before .before .before .before .before .args in
-    let d = met-listing (now (a .file)) (a .book) (a .w .next) _ _ (met-is n) in
+    let d = checked-listing (now (a .file)) (a .book) (a .w .next) _ _ (met-is n) in
     ap (λ (i : ℕ). Inside (record { chunk = a .w .next; at = i; left = l .entry-count .result; next = n .next .given .0 .1 .0; more = a .w .more - 1 })) (l .before .before .first-place .ensures)
-    ∙ ap₂ (λ (l k : ℕ). Inside (record { chunk = a .w .next; at = headOf Kind.Listing; left = l; next = k; more = a .w .more - 1 }))
+    ∙ ap₂ (λ (l k : ℕ). Inside (record { chunk = a .w .next; at = firstPlace Kind.Listing; left = l; next = k; more = a .w .more - 1 }))
     (count-is l ∙ sym (entries-length (now (a .file)) (a .book) (a .w .next) (d .kind))) (sym (d .next-is))
     ∙ sym (enter-chunk (now (a .file)) (a .book) (a .w) (e .before .before .if1 .left) (on e) (omega arith) (d .below))
 
@@ -109,7 +109,7 @@ enter-spec =
     is-over-requires
     returns-2
     returns-3
-    met-requires
+    checked-chunk-requires
     enum-known-next
     cast-next
     enum-told

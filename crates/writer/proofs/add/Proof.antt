@@ -1,4 +1,4 @@
--- `head::add` meets its contract. Assumes nothing.
+-- `head::add` meets its contract.
 use mathlib.Core.Path.{refl, sym}
 use native.Mathlib.Omega.{arith}
 use lib.Seq.{set-out}
@@ -14,8 +14,8 @@ add-bytes c =
     let a = c .before .before in
     omega (arith, a .pre .sized, row-short Listing (a .args .e) (a .pre .short), a .pre .small)
 
-fits-requires : tie.Need-fits-requires
-fits-requires c κs = search needs
+fits-chunk-requires : tie.Need-fits-chunk-requires
+fits-chunk-requires c κs = search needs
 
 add-t11 : tie.Need-add-t11
 add-t11 c = search needs
@@ -47,7 +47,7 @@ add-spec =
     tie.close
     (tie.spec
     add-bytes
-    fits-requires
+    fits-chunk-requires
     add-t11
     returns
     add-if2

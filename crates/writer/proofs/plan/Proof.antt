@@ -1,4 +1,4 @@
--- `head::plan` meets its contract. Assumes nothing.
+-- `head::plan` meets its contract.
 use mathlib.Core.Path.{_≡_, sym, _∙_}
 use mathlib.Core.Bool.{true}
 use Prim.Native.Nat.{_-_}
@@ -8,7 +8,7 @@ use Rattle.entries.specs.declared.Kind.the-variants.{Listing}
 use Rattle.source.specs.Input.{given, inputRight}
 use Rattle.pack.specs.Levels.{level}
 use Rattle.pack.proofs.Levels.{chunks-given}
-use Rattle.writer.specs.Plan.{Listed}
+use Rattle.writer.specs.Plan.{ListingLevel}
 use Rattle.writer.proofs.Shaping.{Shaping, first-over, shaping-start, shaping-end, shaping-deep, shaping-over, shaping-turn}
 use borrow.Author.Needs.{needs}
 use Rattle.writer.proofs.plan.Statement.{statement}
@@ -22,7 +22,7 @@ abbrev μ-loop : tie.MeasureT-loop
 
 -- the listing level is planned
 listed : (c : tie.After-m Inv-loop μ-loop) → let q = c .before .before .before .before in let a = q .before .before .before .before .args in
-    Listed (a .content) (now (a .input)) (a .n) (now (a .starts)) (q .plan-listing .last .1 .1 .1 .0) (c .m .given .0 .0)
+    ListingLevel (a .content) (now (a .input)) (a .n) (now (a .starts)) (q .plan-listing .last .1 .1 .1 .0) (c .m .given .0 .0)
 listed c = rw (c .m .given .1) at (c .before .before .before .before .plan-listing .ensures)
 
 plan-listing-requires : tie.Need-plan-listing-requires Inv-loop μ-loop

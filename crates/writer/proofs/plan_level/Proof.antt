@@ -1,4 +1,4 @@
--- `head::plan_level` meets its contract. Assumes nothing.
+-- `head::plan_level` meets its contract.
 use mathlib.Core.Path.{_≡_, refl, sym, _∙_}
 use mathlib.Core.Bool.{false}
 use mathlib.Core.List.{[]}

@@ -1,4 +1,4 @@
--- `head::put_chunk` meets its contract. Assumes nothing.
+-- `head::put_chunk` meets its contract.
 use mathlib.Core.Path.{_≡_, sym, _∙_}
 use mathlib.Core.Bool.{cond}
 use mathlib.Core.List.{List}
@@ -9,7 +9,7 @@ use lib.Seq.{length-take-le}
 use lib.Dec.{eqb}
 use borrow.Author.Tests.{eq-eqb}
 use Rattle.compose.proofs.Whole.{length-extent}
-use Rattle.layout.specs.Layout.{prevOf, nextOf}
+use Rattle.layout.specs.Layout.{newPrevious, newNext}
 use Rattle.writer.proofs.Lent.{lent}
 use borrow.Author.Needs.{needs}
 use Rattle.writer.proofs.put_chunk.Statement.{statement}
@@ -63,7 +63,7 @@ returns c =
     let a = c .before .before .before .before .before .before .before .before .before .args in
     let w = c .before .before .write-chunk in
     let at = 204 + 4096 * a .c in
-    let l = length-extent (a .content) (a .input .now) (a .starts .now) (a .from .kind) (a .from .left) (a .from .at) (a .n) (w .result) (w .ensures .0) (prevOf (a .c)) (nextOf (a .m) (a .c)) in
+    let l = length-extent (a .content) (a .input .now) (a .starts .now) (a .from .kind) (a .from .left) (a .from .at) (a .n) (w .result) (w .ensures .0) (newPrevious (a .c)) (newNext (a .m) (a .c)) in
     let k : at + 4096 - at ≡ 4096 = omega arith in (
       w .ensures .0,
       lent at (at + 4096 - at) (a .out .now) _ _

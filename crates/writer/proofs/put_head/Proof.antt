@@ -1,4 +1,4 @@
--- `head::put_head` meets its contract. Assumes nothing.
+-- `head::put_head` meets its contract.
 use native.Mathlib.Omega.{arith}
 use Rattle.writer.proofs.Answers.{leaves-are, ready-level, ready-index, head-written}
 use borrow.Author.Needs.{needs}

@@ -1,11 +1,11 @@
--- `head::put_headers` meets its contract. Assumes nothing.
+-- `head::put_headers` meets its contract.
 use mathlib.Core.Path.{ap, _∙_}
 use Prim.Native.Nat.{ℕ, _+_, _-_}
 use native.Mathlib.Omega.{arith}
 use lib.Seq.{sets}
 use Rattle.compose.proofs.Words.{three}
 use Rattle.layout.specs.Headers.{headLength, fileHeader, sectionZero, directoryHeader}
-use Rattle.layout.specs.Layout.{rootOf}
+use Rattle.layout.specs.Layout.{newRoot}
 use Rattle.writer.specs.Plan.{headersOf}
 use Rattle.layout.proofs.Sizes.{length-file, length-section}
 use borrow.Author.Needs.{needs}
@@ -62,7 +62,7 @@ unfolding headersOf
 returns c =
     let a = c .before .before .before .before .before .before .before .before .before .before .before .before .before .before .args in
     let r = c .before .before .before .root-chunk .ensures in
-    three (a .out .now) _ _ _ 0 0x60 0x78 (fileHeader (a .time) (a .language) (a .count)) (sectionZero (headLength (a .count) + a .content)) (directoryHeader (a .language) (a .density) (a .depth) (rootOf (a .depth) (a .count)) (a .m - 1) (a .count))
+    three (a .out .now) _ _ _ 0 0x60 0x78 (fileHeader (a .time) (a .language) (a .count)) (sectionZero (headLength (a .count) + a .content)) (directoryHeader (a .language) (a .density) (a .depth) (newRoot (a .depth) (a .count)) (a .m - 1) (a .count))
     (c .before .before .before .before .before .before .before .before .before .before .before .put-file-header .ensures) (omega (arith, length-file (a .time) (a .language) (a .count)))
     (c .before .before .before .before .before .before .before .put-section .ensures) (omega (arith, length-section (headLength (a .count) + a .content)))
     (c .before .before .put-directory-header .ensures ∙ ap (λ (x : ℕ). sets (c .before .before .before .before .before .before .before .put-section .last .0) 0x78 (directoryHeader (a .language) (a .density) (a .depth) x (a .m - 1) (a .count))) r)

@@ -1,4 +1,4 @@
--- `head::write_head` meets its contract. Assumes nothing.
+-- `head::write_head` meets its contract.
 use mathlib.Core.Path.{_≡_, sym, ap, _∙_}
 use mathlib.Core.Bool.{true}
 use native.Mathlib.Omega.{arith}
@@ -10,7 +10,7 @@ use Rattle.layout.specs.Layout.{takes, layoutFor}
 use Rattle.layout.proofs.Cut.{takes-told}
 use Rattle.layout.proofs.Filled.{leaves-some, list-whole}
 use Rattle.layout.proofs.Places.{length-head}
-use Rattle.writer.specs.Plan.{limits, Made}
+use Rattle.writer.specs.Plan.{inBounds, LevelsPlanned}
 use Rattle.writer.specs.declared.Written.the-variants.{Refused}
 use Rattle.writer.proofs.Answers.{limits-dense, takes-both, takes-limits, takes-right, answer-18, answer-19, answer-20, answer-head, made-small, spacing-is}
 use borrow.Author.Needs.{needs}
@@ -18,7 +18,7 @@ use Rattle.writer.proofs.write_head.Statement.{statement}
 use Rattle.writer.proofs.write_head.Tie as tie
 
 -- density and content length are taken
-within : (c : tie.Else1) → let a = c .before .before .before .before .args in limits (a .density) (a .content-length) ≡ true
+within : (c : tie.Else1) → let a = c .before .before .before .before .args in inBounds (a .density) (a .content-length) ≡ true
 within c = held (c .before .is-taken .ensures) (c .if1 .left)
 
 spaced : (c : tie.After-spacing) → c .spacing .result ≡ spacingOf (c .before .before .before .before .before .args .density)
@@ -31,7 +31,7 @@ taken c = takes-both _ _ _ (within (c .before .before .before .before .before .b
 
 -- the levels are planned
 made : (c : tie.After-shape) → let a = c .before .before .before .before .before .before .before .before .before .before .args in let v = c .shape .given .0 in
-    Made (now (a .entries)) (c .before .before .before .plan .last .1 .1 .1 .0) (layoutFor (a .density) (a .content-length) (now (a .entries))) (v .0) (v .1 .0) (v .1 .1 .0)
+    LevelsPlanned (now (a .entries)) (c .before .before .before .plan .last .1 .1 .1 .0) (layoutFor (a .density) (a .content-length) (now (a .entries))) (v .0) (v .1 .0) (v .1 .1 .0)
 made c = rw (spaced (c .before .before .before .before .before)) at ((rw (c .shape .given .1) at (c .before .before .before .plan .ensures)) .1)
 
 is-taken-requires : tie.Need-is-taken-requires

@@ -5,36 +5,36 @@ use denote.Ref.{now}
 use Rattle.fields.proofs.Tests.{held, failed}
 use Rattle.entries.specs.declared.Kind.the-variants.{Listing}
 use Rattle.seek.specs.Seek.{nthIn}
-use Rattle.book.specs.Book.{limitsOf, chunkBytes, bookFits}
+use Rattle.book.specs.Book.{limitsOf, chunkBytes, recordFits}
 use Rattle.listing.specs.declared.Owned.the-variants.{At}
-use Rattle.book.proofs.Meeting.{Linked, met-listing, met-no-listing}
+use Rattle.book.proofs.Checked.{Linked, checked-listing, checked-no-listing}
 use Rattle.listing.proofs.Owning.{own-unfit, own-other, own-missing, own-there, owned-answer}
 use Rattle.listing.proofs.Cursor.own.Statement.{statement}
 use Rattle.listing.proofs.Cursor.own.Tie as tie
 
-fits-is : (c : tie.Else1) → let a = c .before .before .before .args in bookFits (now (a .file)) (a .book) ≡ true
+fits-is : (c : tie.Else1) → let a = c .before .before .before .args in recordFits (now (a .file)) (a .book) ≡ true
 fits-is c = held (c .before .fits2 .ensures) (c .if1 .left)
 
 linked-is : (c : tie.After-enum-told) → let a = c .before .before .before .before .before .before .args in
     Linked (now (a .file)) (a .book) (a .self .chunk) (c .enum-told .given .0 .0) (c .enum-told .given .0 .1 .0)
-linked-is c = met-listing _ _ _ _ _ (sym (c .before .before .met .ensures) ∙ c .enum-told .given .1)
+linked-is c = checked-listing _ _ _ _ _ (sym (c .before .before .checked-chunk .ensures) ∙ c .enum-told .given .1)
 
 -- the search that the code makes is the one in the chunk of the book
 sought-is : (c : tie.After-nth-entry) → let a = c .before .before .before .before .before .before .before .before .before .args in
     c .nth-entry .result ≡ nthIn (limitsOf (now (a .file)) (a .book)) Listing (chunkBytes (now (a .file)) (a .book) (a .self .chunk)) (a .self .entry)
 sought-is c = rw (← c .before .limits .ensures, ← c .before .before .chunk-bytes .ensures) (c .nth-entry .ensures)
 
-fits-requires : tie.Need-fits-requires
-fits-requires c κs = search needs
+record-fits-requires : tie.Need-record-fits-requires
+record-fits-requires c κs = search needs
 
 returns : tie.Need-returns
 returns c =
     let g = c .before .before in
     let a = g .before .args in
-    owned-answer (now (a .file)) (λ j. g .shared-slice-known .given j .fits) (a .book) (a .self) _ (sym (own-unfit _ _ _ (failed (c .before .fits2 .ensures) (c .if1 .taken))))
+    owned-answer (now (a .file)) (λ j. g .shared-slice-known .given j .record-fits) (a .book) (a .self) _ (sym (own-unfit _ _ _ (failed (c .before .fits2 .ensures) (c .if1 .taken))))
 
-met-requires : tie.Need-met-requires
-met-requires c κs = search needs
+checked-chunk-requires : tie.Need-checked-chunk-requires
+checked-chunk-requires c κs = search needs
 
 enum-told : tie.Need-enum-told
 enum-told c = search needs
@@ -44,7 +44,7 @@ returns-2 c =
     let m = c .before in
     let g = m .before .before .before in
     let a = g .before .args in
-    owned-answer (now (a .file)) (λ j. g .shared-slice-known .given j .fits) (a .book) (a .self) _ (sym (own-other _ _ _ (met-no-listing (now (a .file)) (a .book) (a .self .chunk) (m .met .result) (m .met .ensures) (c .match .keys2))))
+    owned-answer (now (a .file)) (λ j. g .shared-slice-known .given j .record-fits) (a .book) (a .self) _ (sym (own-other _ _ _ (checked-no-listing (now (a .file)) (a .book) (a .self .chunk) (m .checked-chunk .result) (m .checked-chunk .ensures) (c .match .keys2))))
 
 chunk-bytes-requires : tie.Need-chunk-bytes-requires
 chunk-bytes-requires c κs = search needs
@@ -72,7 +72,7 @@ returns-3 c =
     let l = linked-is t in
     let g = t .before .before .before .before .before in
     let a = g .before .args in
-    owned-answer (now (a .file)) (λ j. g .shared-slice-known .given j .fits) (a .book) (a .self) _
+    owned-answer (now (a .file)) (λ j. g .shared-slice-known .given j .record-fits) (a .book) (a .self) _
     (ap At (c .own-of .ensures) ∙ sym (own-there _ _ _ (fits-is (t .before .before .before)) (l .below) (l .kind) _ (sym (sought-is n) ∙ e .e .given .1)))
 
 returns-4 : tie.Need-returns-4
@@ -82,16 +82,16 @@ returns-4 c =
     let l = linked-is t in
     let g = t .before .before .before .before .before in
     let a = g .before .args in
-    owned-answer (now (a .file)) (λ j. g .shared-slice-known .given j .fits) (a .book) (a .self) _
+    owned-answer (now (a .file)) (λ j. g .shared-slice-known .given j .record-fits) (a .book) (a .self) _
     (sym (own-missing _ _ _ (fits-is (t .before .before .before)) (l .below) (l .kind) (sym (sought-is n) ∙ c .enum-told2 .given .1)))
 
 pub own-spec : {M : Type 1} → statement M
 own-spec =
     tie.close
     (tie.spec
-    fits-requires
+    record-fits-requires
     returns
-    met-requires
+    checked-chunk-requires
     enum-told
     returns-2
     chunk-bytes-requires

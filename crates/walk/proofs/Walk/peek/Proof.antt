@@ -3,18 +3,18 @@ use mathlib.Core.Path.{_≡_, sym, ap, _∙_}
 use mathlib.Core.Bool.{true}
 use denote.Ref.{now}
 use Rattle.fields.proofs.Tests.{held, failed}
-use Rattle.book.specs.Book.{bookFits}
+use Rattle.book.specs.Book.{recordFits}
 use Rattle.walk.specs.declared.Entered.the-variants.{Inside, Over, Barred}
 use Rattle.walk.specs.declared.Coming.the-variants.{Refused}
 use Rattle.walk.proofs.Entering.{peek-unfit, peek-entered}
 use Rattle.walk.proofs.Walk.peek.Statement.{statement}
 use Rattle.walk.proofs.Walk.peek.Tie as tie
 
-fits-is : (c : tie.Else1) → let a = c .before .before .before .args in bookFits (now (a .file)) (a .book) ≡ true
+fits-is : (c : tie.Else1) → let a = c .before .before .before .args in recordFits (now (a .file)) (a .book) ≡ true
 fits-is c = held (c .before .fits2 .ensures) (c .if1 .left)
 
-fits-requires : tie.Need-fits-requires
-fits-requires c κs = search needs
+record-fits-requires : tie.Need-record-fits-requires
+record-fits-requires c κs = search needs
 
 no-reading-requires : tie.Need-no-reading-requires
 no-reading-requires c κs = search needs
@@ -66,7 +66,7 @@ pub peek-spec : {M : Type 1} → statement M
 peek-spec =
     tie.close
     (tie.spec
-    fits-requires
+    record-fits-requires
     no-reading-requires
     returns
     enter-requires

@@ -1,12 +1,12 @@
--- `run8` meets its contract. Assumes nothing.
+-- `run8` meets its contract.
 use mathlib.Core.Path.{_≡_}
 use Prim.Native.Nat.{_+_, _-_}
 use native.Mathlib.Omega.{arith}
 use Rattle.fields.specs.Le.{le}
 use Rattle.names.specs.Alike.{Reached}
 use Rattle.names.proofs.Alikes.{alike-none, alike-number, reached-more}
-use Rattle.names.proofs.run8.Statement.{statement}
-use Rattle.names.proofs.run8.Tie as tie
+use Rattle.names.proofs.same_by_eights.Statement.{statement}
+use Rattle.names.proofs.same_by_eights.Tie as tie
 
 abbrev Inv-loop : tie.InvT-loop
 Inv-loop a from b at end j₀ k₀ j k = (k ≡ at + (j - from)) × Reached a b from at end j
@@ -52,7 +52,7 @@ loop-again c =
 returns-2 : tie.Need-returns-2 Inv-loop μ-loop
 returns-2 c = c .before .loop .inv .1
 
-pub run8-spec : {M : Type 1} → statement M
-run8-spec =
+pub same-by-eights-spec : {M : Type 1} → statement M
+same-by-eights-spec =
     tie.close
     (tie.spec Inv-loop μ-loop loop-holds sub-loop eight-requires eight-requires-2 returns add-j add-k loop-less loop-again returns-2)

@@ -4,28 +4,28 @@ use mathlib.Core.Bool.{true}
 use native.Mathlib.Omega.{arith}
 use denote.Ref.{now}
 use Rattle.fields.proofs.Tests.{held, failed}
-use Rattle.chunk.specs.Chunk.{countOf}
-use Rattle.book.specs.Book.{chunkBytes, bookFits}
+use Rattle.chunk.specs.Chunk.{entryCount}
+use Rattle.book.specs.Book.{chunkBytes, recordFits}
 use Rattle.listing.specs.declared.Page.the-variants.{Refused}
-use Rattle.book.proofs.Meeting.{Linked, met-listing, met-index, met-refused}
+use Rattle.book.proofs.Checked.{Linked, checked-listing, checked-index, checked-refused}
 use Rattle.listing.proofs.Paging.{page-unfit, page-other, page-short, page-done}
-use Rattle.listing.proofs.page_of.Statement.{statement}
-use Rattle.listing.proofs.page_of.Tie as tie
+use Rattle.listing.proofs.chunk_page.Statement.{statement}
+use Rattle.listing.proofs.chunk_page.Tie as tie
 
-fits-is : (c : tie.Else1) → let a = c .before .before .before .before .args in bookFits (now (a .file)) (a .book) ≡ true
+fits-is : (c : tie.Else1) → let a = c .before .before .before .before .args in recordFits (now (a .file)) (a .book) ≡ true
 fits-is c = held (c .before .fits2 .ensures) (c .if1 .left)
 
--- the chunk that was met is a listing chunk, with the next that the code has
+-- the chunk that was checked-chunk is a listing chunk, with the next that the code has
 met-is : (c : tie.After-known-told) → let a = c .before .before .before .before .before .before .before .before .args in
     Linked (now (a .file)) (a .book) (a .chunk) (c .before .next .given .0 .0) (c .before .next .given .0 .1 .0)
-met-is c = met-listing _ _ _ _ _ (sym (c .before .before .before .met .ensures) ∙ c .before .next .given .1)
+met-is c = checked-listing _ _ _ _ _ (sym (c .before .before .before .checked-chunk .ensures) ∙ c .before .next .given .1)
 
 count-is : (c : tie.After-entry-count) → let a = c .before .before .before .before .before .before .before .before .before .before .args in
-    c .entry-count .result ≡ countOf (chunkBytes (now (a .file)) (a .book) (a .chunk))
+    c .entry-count .result ≡ entryCount (chunkBytes (now (a .file)) (a .book) (a .chunk))
 count-is c = rw (← c .before .chunk-bytes .ensures) (c .entry-count .ensures)
 
-fits-requires : tie.Need-fits-requires
-fits-requires c κs = search needs
+record-fits-requires : tie.Need-record-fits-requires
+record-fits-requires c κs = search needs
 
 refuse-requires : tie.Need-refuse-requires
 refuse-requires c κs = search needs
@@ -36,8 +36,8 @@ returns c =
     let r = page-unfit (now (a .file)) (a .book) (a .chunk) (now (a .out)) (failed (c .before .before .fits2 .ensures) (c .before .if1 .taken)) in
     (ap Refused (c .refuse .ensures) ∙ r .0, r .1)
 
-met-requires : tie.Need-met-requires
-met-requires c κs = search needs
+checked-chunk-requires : tie.Need-checked-chunk-requires
+checked-chunk-requires c κs = search needs
 
 enum-known-next : tie.Need-enum-known-next
 enum-known-next c = search needs
@@ -52,7 +52,7 @@ returns-2 : tie.Need-returns-2
 returns-2 c =
     let m = c .before .before .before in
     let a = m .before .before .before .before .before .args in
-    let o = met-index (now (a .file)) (a .book) (a .chunk) (sym (m .met .ensures) ∙ c .before .enum-told .given .1) .1 in
+    let o = checked-index (now (a .file)) (a .book) (a .chunk) (sym (m .checked-chunk .ensures) ∙ c .before .enum-told .given .1) .1 in
     let r = page-other (now (a .file)) (a .book) (a .chunk) (now (a .out)) (fits-is (m .before)) o in
     (ap Refused (c .refuse2 .ensures) ∙ r .0, r .1)
 
@@ -66,7 +66,7 @@ returns-3 : tie.Need-returns-3
 returns-3 c =
     let m = c .before .before .before in
     let a = m .before .before .before .before .before .args in
-    let o = met-refused (now (a .file)) (a .book) (a .chunk) _ (sym (m .met .ensures) ∙ c .before .enum-told2 .given .1) .1 in
+    let o = checked-refused (now (a .file)) (a .book) (a .chunk) _ (sym (m .checked-chunk .ensures) ∙ c .before .enum-told2 .given .1) .1 in
     let r = page-other (now (a .file)) (a .book) (a .chunk) (now (a .out)) (fits-is (m .before)) o in
     (ap Refused (c .refuse3 .ensures) ∙ r .0, r .1)
 
@@ -93,8 +93,8 @@ returns-4 c =
     let a = e .before .before .before .before .args in
     page-short (now (a .file)) (a .book) (a .chunk) (now (a .out)) (fits-is e) (met-is k .below) (l .entry-count .result) (count-is l) (c .if2 .taken)
 
-put-entries-requires : tie.Need-put-entries-requires
-put-entries-requires c κs =
+put-reports-requires : tie.Need-put-reports-requires
+put-reports-requires c κs =
     let l = c .before .before in
     let n = count-is l in
     (met-is (l .before .before) .kind, omega arith)
@@ -109,16 +109,16 @@ returns-5 c =
     let e = k .before .before .before .before in
     let a = e .before .before .before .before .args in
     page-done (now (a .file)) (a .book) (a .chunk) (now (a .out)) (fits-is e) (met-is k .below) (l .entry-count .result) (count-is l)
-    (c .before .before .before .before .if2 .left) _ (met-is k .next-is) _ (c .before .before .put-entries .ensures)
+    (c .before .before .before .before .if2 .left) _ (met-is k .next-is) _ (c .before .before .put-reports .ensures)
 
-pub page-of-spec : {M : Type 1} → statement M
-page-of-spec =
+pub chunk-page-spec : {M : Type 1} → statement M
+chunk-page-spec =
     tie.close
     (tie.spec
-    fits-requires
+    record-fits-requires
     refuse-requires
     returns
-    met-requires
+    checked-chunk-requires
     enum-known-next
     enum-told
     refuse-requires-2
@@ -132,6 +132,6 @@ page-of-spec =
     cast-if2
     mul-if2
     returns-4
-    put-entries-requires
+    put-reports-requires
     same-length
     returns-5)

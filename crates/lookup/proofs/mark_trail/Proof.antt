@@ -1,7 +1,7 @@
 use mathlib.Core.Path.{refl}
 use borrow.Author.Needs.{needs}
-use Rattle.lookup.proofs.mark.Statement.{statement}
-use Rattle.lookup.proofs.mark.Tie as tie
+use Rattle.lookup.proofs.mark_trail.Statement.{statement}
+use Rattle.lookup.proofs.mark_trail.Tie as tie
 
 returns : tie.Need-returns
 returns c = rw (c .if1 .taken) refl
@@ -21,5 +21,5 @@ same-length c = search needs
 returns-2 : tie.Need-returns-2
 returns-2 c = rw (c .if1 .left) refl
 
-pub mark-spec : {M : Type 1} → statement M
-mark-spec = tie.close (tie.spec returns cast-trail mul-trail slice-write-trail same-length returns-2)
+pub mark-trail-spec : {M : Type 1} → statement M
+mark-trail-spec = tie.close (tie.spec returns cast-trail mul-trail slice-write-trail same-length returns-2)

@@ -1,11 +1,11 @@
--- `run` meets its contract. Assumes nothing.
+-- `run` meets its contract.
 use mathlib.Core.Path.{_≡_, refl}
 use Prim.Native.Nat.{_+_, _-_}
 use native.Mathlib.Omega.{arith}
 use Rattle.names.specs.Alike.{Reached}
 use Rattle.names.proofs.Alikes.{alike-none, alike-byte, reached-more}
-use Rattle.names.proofs.run.Statement.{statement}
-use Rattle.names.proofs.run.Tie as tie
+use Rattle.names.proofs.same_up_to.Statement.{statement}
+use Rattle.names.proofs.same_up_to.Tie as tie
 
 abbrev Inv-loop : tie.InvT-loop
 Inv-loop a from b at end j₀ k₀ j k = (k ≡ at + (j - from)) × Reached a b from at end j
@@ -22,8 +22,8 @@ shared-slice-read-if2-2 c = omega arith
 returns : tie.Need-returns Inv-loop μ-loop
 returns c = (omega arith, omega arith, alike-none _ _ _ _ _ (omega arith) (omega arith) (omega arith))
 
-run8-requires : tie.Need-run8-requires Inv-loop μ-loop
-run8-requires c κs = (omega arith, omega arith, omega arith)
+same-by-eights-requires : tie.Need-same-by-eights-requires Inv-loop μ-loop
+same-by-eights-requires c κs = (omega arith, omega arith, omega arith)
 
 sub-k : tie.Need-sub-k Inv-loop μ-loop
 sub-k c = omega arith
@@ -32,7 +32,7 @@ add-k : tie.Need-add-k Inv-loop μ-loop
 add-k c = omega arith
 
 loop-holds : tie.Need-loop-holds Inv-loop μ-loop
-loop-holds c = (refl, c .run8 .ensures)
+loop-holds c = (refl, c .same-by-eights .ensures)
 
 shared-slice-read-if3 : tie.Need-shared-slice-read-if3 Inv-loop μ-loop
 shared-slice-read-if3 c = omega arith
@@ -62,8 +62,8 @@ loop-again c =
 returns-3 : tie.Need-returns-3 Inv-loop μ-loop
 returns-3 c = c .before .loop .inv .1
 
-pub run-spec : {M : Type 1} → statement M
-run-spec =
+pub same-up-to-spec : {M : Type 1} → statement M
+same-up-to-spec =
     tie.close
     (tie.spec
     Inv-loop
@@ -71,7 +71,7 @@ run-spec =
     shared-slice-read-if2
     shared-slice-read-if2-2
     returns
-    run8-requires
+    same-by-eights-requires
     sub-k
     add-k
     loop-holds

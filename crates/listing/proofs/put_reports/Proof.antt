@@ -7,12 +7,12 @@ use lib.Seq.{sets}
 use Rattle.entries.specs.Entry.{itemAt}
 use Rattle.entries.specs.declared.Item.the-variants.{Good}
 use Rattle.entries.specs.declared.Kind.the-variants.{Listing}
-use Rattle.chunk.specs.Chunk.{countOf}
+use Rattle.chunk.specs.Chunk.{entryCount}
 use Rattle.book.specs.Book.{limitsOf, chunkBytes}
 use Rattle.listing.specs.Listing.{fiveOf}
 use Rattle.listing.proofs.Writing.{Left, left-start, left-there, left-turn, left-end}
-use Rattle.listing.proofs.put_entries.Statement.{statement}
-use Rattle.listing.proofs.put_entries.Tie as tie
+use Rattle.listing.proofs.put_reports.Statement.{statement}
+use Rattle.listing.proofs.put_reports.Tie as tie
 
 abbrev Inv-loop : tie.InvT-loop
 Inv-loop file book chunk out₀ c limits total at₀ i₀ out at i = Left file book chunk out₀ out at i
@@ -22,7 +22,7 @@ abbrev μ-loop : tie.MeasureT-loop
 
 -- what the code calls chunk, limits and count is that of the book
 count-is : (c : tie.After-entry-count Inv-loop μ-loop) → let a = c .before .before .before .before .before .args in
-    c .entry-count .result ≡ countOf (chunkBytes (now (a .file)) (a .book) (a .chunk))
+    c .entry-count .result ≡ entryCount (chunkBytes (now (a .file)) (a .book) (a .chunk))
 count-is c = rw (← c .before .before .chunk-bytes .ensures) (c .entry-count .ensures)
 
 read-is : (c : tie.After-listing-at Inv-loop μ-loop) → let l = c .before .before in let a = l .before .before .before .before .before .before .before .args in
@@ -118,8 +118,8 @@ returns-2 c =
     let n = count-is (l .before .before) in
     left-end (now (b .args .file)) (b .args .book) (b .args .chunk) (b .pre .0) _ _ _ _ (l .loop .inv) (omega arith)
 
-pub put-entries-spec : {M : Type 1} → statement M
-put-entries-spec =
+pub put-reports-spec : {M : Type 1} → statement M
+put-reports-spec =
     tie.close
     (tie.spec
     Inv-loop

@@ -1,7 +1,6 @@
 -- Demand 3, whole: on a directory that opening accepts, the descent finds what a listing chunk holds and nothing else, and goes through
 -- one chunk or as many as the depth says.
 --     demand-3    for every name
--- Assumes nothing.
 use mathlib.Core.Path.{_≡_, refl, sym, ap, _∙_, subst}
 use mathlib.Core.Logic.{inl, inr}
 use mathlib.Core.Bool.{true, false≢true}
@@ -18,7 +17,7 @@ use Rattle.tree.specs.Shape.{Shape, firstName}
 use Rattle.tree.specs.Chain.{chain, entriesOf, chainEntries}
 use Rattle.tree.specs.Tree.{top, leaves, shaped, treeOk}
 use Rattle.tree.specs.Descent.{found, absent, refused, outcomeFrom, trailFrom, outcome, trail}
-use Rattle.tree.specs.Demand.{GoodDirectory, Holds, Demand3}
+use Rattle.tree.specs.Exact.{GoodDirectory, Holds, LookupExact}
 use Rattle.tree.proofs.Rising.{Before, rising-each}
 use Rattle.tree.proofs.Chunks.{listing-chunk, first-entry}
 use Rattle.tree.proofs.Linked.{linked-chunk, chain-first, chain-linked, good-filled, listed}
@@ -81,7 +80,7 @@ module _ (D : ℕ → Parsed) (H : Shape) (a : GoodDirectory D H) (l : ℕ) (g :
     settled : Answered D H (a .chunks) name (outcome D H name)
     settled = rw outcome-is (answered D H (a .chunks) name l (top H) (g .shape))
 
-    demanded : Demand3 D H name
+    demanded : LookupExact D H name
     demanded = record {
       found-iff = λ c e. (finds c e, held c e);
       only = λ c d e f h k. let p : found c e ≡ found d f = sym (held c e h) ∙ held d f k in (cc, cc);
@@ -106,5 +105,5 @@ module _ (D : ℕ → Parsed) (H : Shape) (a : GoodDirectory D H) (l : ℕ) (g :
         misses : ((c : ℕ) (e : Entry) → ¬ Holds D H name c e) → outcome D H name ≡ absent
         misses h = elim settled [ inl p ↦ p | inr k ↦ absurd (h (k .0) (k .1) (k .3)) ]
 
-pub demand-3 : (D : ℕ → Parsed) (H : Shape) → GoodDirectory D H → (name : List ℕ) → Demand3 D H name
-demand-3 D H a name = let g = grown D H (a .tree-passes) in demanded D H a (g .0) (g .1) name
+pub lookup-exact : (D : ℕ → Parsed) (H : Shape) → GoodDirectory D H → (name : List ℕ) → LookupExact D H name
+lookup-exact D H a name = let g = grown D H (a .tree-passes) in demanded D H a (g .0) (g .1) name

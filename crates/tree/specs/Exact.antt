@@ -1,5 +1,4 @@
 -- What listing and lookup promise on a directory that opening accepts, as statements over the definitions.
--- Assumes nothing.
 use mathlib.Core.Path.{_≡_}
 use mathlib.Core.Logic.{_↔_, _≢_}
 use mathlib.Core.Bool.{true, false}
@@ -24,7 +23,7 @@ pub record GoodDirectory (D : ℕ → Parsed) (H : Shape) : Type 0 where
 
 -- ---- the listing
 
-pub record Listed (D : ℕ → Parsed) (H : Shape) : Type 0 where
+pub record ChainListed (D : ℕ → Parsed) (H : Shape) : Type 0 where
   -- the chain has exactly the listing chunks, each once
   pub chunks : (c : ℕ) → In c (chain D H) ↔ ((c < H .count) × (isListing (D c) ≡ true))
   pub once : Distinct (chain D H)
@@ -40,7 +39,7 @@ pub record Holds (D : ℕ → Parsed) (H : Shape) (name : List ℕ) (c : ℕ) (e
   pub entry : In e (entriesIn (D c))
   pub equals : matches name (e .name) ≡ true
 
-pub record Demand3 (D : ℕ → Parsed) (H : Shape) (name : List ℕ) : Type 0 where
+pub record LookupExact (D : ℕ → Parsed) (H : Shape) (name : List ℕ) : Type 0 where
   -- found is exactly what some listing chunk holds,
   pub found-iff : (c : ℕ) (e : Entry) → (outcome D H name ≡ found c e) ↔ Holds D H name c e
   -- of which there is at most one in the book;
@@ -54,7 +53,7 @@ pub record Demand3 (D : ℕ → Parsed) (H : Shape) (name : List ℕ) : Type 0 w
 
 -- ---- the plain search: what it owes wherever the chain passes, whatever the index chunks are
 
-pub record PlainDemand (D : ℕ → Parsed) (H : Shape) (name : List ℕ) : Type 0 where
+pub record PlainExact (D : ℕ → Parsed) (H : Shape) (name : List ℕ) : Type 0 where
   -- what it finds some listing chunk holds;
   pub found-held : (c : ℕ) (e : Entry) → plain D H name ≡ found c e → Holds D H name c e
   -- absent where none does; a refusal never

@@ -1,5 +1,4 @@
 -- What a chunk number leads to tells of the chunk: whether it is below the count and of a kind, and its links.
--- Assumes nothing.
 use mathlib.Core.Path.{_≡_, refl, sym, ap, _∙_}
 use mathlib.Core.Logic.{inl, inr}
 use mathlib.Core.Bool.{Bool, true, false, cond, _&&_}
@@ -18,7 +17,7 @@ use Rattle.chunk.specs.declared.Chunk.the-variants.{Refused, Listing, Index}
 use Rattle.chunk.proofs.Chunk as chunk-type
 use Rattle.header.specs.declared.Record.{Record}
 use Rattle.tree.specs.Shape.{isListing, previousOf, nextOf, listingChunk, indexChunk}
-use Rattle.book.specs.Book.{directoryOf, shapeOf, metChunk}
+use Rattle.book.specs.Book.{directoryOf, shapeOf, checkedChunk}
 
 -- the answer is a chunk of the kind k
 abbrev isOf : Kind → Chunk → Bool
@@ -62,12 +61,12 @@ not-index (Listing p n) h = refl
 not-index Index h = elim h [ inl e ↦ absurd (omega arith) | inr e ↦ absurd (omega arith) ]
 
 module _ (s : List ℕ) (book : Record) (c : ℕ) where
-  listing-is : listingChunk (directoryOf s book) (shapeOf book) c ≡ isOf Kind.Listing (metChunk s book c)
-  unfolding listingChunk metChunk
+  listing-is : listingChunk (directoryOf s book) (shapeOf book) c ≡ isOf Kind.Listing (checkedChunk s book c)
+  unfolding listingChunk checkedChunk
   listing-is = sym (of-met Kind.Listing (ltb c (book .count)) (directoryOf s book c))
 
-  index-is : indexChunk (directoryOf s book) (shapeOf book) c ≡ isOf Kind.Index (metChunk s book c)
-  unfolding indexChunk metChunk
+  index-is : indexChunk (directoryOf s book) (shapeOf book) c ≡ isOf Kind.Index (checkedChunk s book c)
+  unfolding indexChunk checkedChunk
   index-is = sym (of-met Kind.Index (ltb c (book .count)) (directoryOf s book c))
 
   -- what is met is a listing chunk, with its links,
@@ -77,31 +76,31 @@ module _ (s : List ℕ) (book : Record) (c : ℕ) where
     pub previous-is : previousOf (directoryOf s book c) ≡ previous
     pub next-is : nextOf (directoryOf s book c) ≡ next
 
-  pub met-listing : (previous next : ℕ) → metChunk s book c ≡ Listing previous next → Linked previous next
-  unfolding metChunk
-  met-listing a b e =
+  pub checked-listing : (previous next : ℕ) → checkedChunk s book c ≡ Listing previous next → Linked previous next
+  unfolding checkedChunk
+  checked-listing a b e =
       let l = linked-of (ltb c (book .count)) (directoryOf s book c) a b e in
       record { below = listing-is ∙ ap (isOf Kind.Listing) e; kind = l .0; previous-is = l .1; next-is = l .2 }
 
   -- or an index chunk,
-  pub met-index : metChunk s book c ≡ Index
+  pub checked-index : checkedChunk s book c ≡ Index
       → (indexChunk (directoryOf s book) (shapeOf book) c ≡ true) × (listingChunk (directoryOf s book) (shapeOf book) c ≡ false)
-  met-index e = (index-is ∙ ap (isOf Kind.Index) e, listing-is ∙ ap (isOf Kind.Listing) e)
+  checked-index e = (index-is ∙ ap (isOf Kind.Index) e, listing-is ∙ ap (isOf Kind.Listing) e)
 
   -- or of no kind
-  pub met-refused : (n : ℕ) → metChunk s book c ≡ Refused n
+  pub checked-refused : (n : ℕ) → checkedChunk s book c ≡ Refused n
       → (indexChunk (directoryOf s book) (shapeOf book) c ≡ false) × (listingChunk (directoryOf s book) (shapeOf book) c ≡ false)
-  met-refused n e = (index-is ∙ ap (isOf Kind.Index) e, listing-is ∙ ap (isOf Kind.Listing) e)
+  checked-refused n e = (index-is ∙ ap (isOf Kind.Index) e, listing-is ∙ ap (isOf Kind.Listing) e)
 
   -- the same of an answer x where only one kind was looked for
-  module _ (x : Chunk) (e : x ≡ metChunk s book c) where
-    pub met-no-listing : OneOf (0 ∷ 2 ∷ []) (tagOf chunk-type.the-type x) → listingChunk (directoryOf s book) (shapeOf book) c ≡ false
-    met-no-listing h = listing-is ∙ (ap (isOf Kind.Listing) (sym e) ∙ not-listing x h)
+  module _ (x : Chunk) (e : x ≡ checkedChunk s book c) where
+    pub checked-no-listing : OneOf (0 ∷ 2 ∷ []) (tagOf chunk-type.the-type x) → listingChunk (directoryOf s book) (shapeOf book) c ≡ false
+    checked-no-listing h = listing-is ∙ (ap (isOf Kind.Listing) (sym e) ∙ not-listing x h)
 
-    pub met-no-index : OneOf (0 ∷ 1 ∷ []) (tagOf chunk-type.the-type x) → indexChunk (directoryOf s book) (shapeOf book) c ≡ false
-    met-no-index h = index-is ∙ (ap (isOf Kind.Index) (sym e) ∙ not-index x h)
+    pub checked-no-index : OneOf (0 ∷ 1 ∷ []) (tagOf chunk-type.the-type x) → indexChunk (directoryOf s book) (shapeOf book) c ≡ false
+    checked-no-index h = index-is ∙ (ap (isOf Kind.Index) (sym e) ∙ not-index x h)
 
   -- below the count it is what the chunk means
-  pub met-inside : c < book .count → metChunk s book c ≡ chunkOf (directoryOf s book c)
-  unfolding metChunk
-  met-inside l = rw (lt-ltb c (book .count) l)
+  pub checked-inside : c < book .count → checkedChunk s book c ≡ chunkOf (directoryOf s book c)
+  unfolding checkedChunk
+  checked-inside l = rw (lt-ltb c (book .count) l)

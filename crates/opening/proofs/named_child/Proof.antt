@@ -13,9 +13,9 @@ use Rattle.entries.proofs.Laws.{item-inside, index-apart}
 use Rattle.entries.specs.declared.Kind.the-variants.{Index}
 use Rattle.tree.specs.Shape.{firstName}
 use Rattle.book.specs.Book.{limitsOf, chunkBytes, directoryOf}
-use Rattle.opening.specs.Passes.{childAt}
-use Rattle.opening.proofs.child_at.Statement.{statement}
-use Rattle.opening.proofs.child_at.Tie as tie
+use Rattle.opening.specs.Passes.{namedChild}
+use Rattle.opening.proofs.named_child.Statement.{statement}
+use Rattle.opening.proofs.named_child.Tie as tie
 
 -- what was read, in terms of the chunk
 asked : (c : tie.After-item-at) → let a = c .before .before .before .before .args in
@@ -56,7 +56,7 @@ enum-told : tie.Need-enum-told
 enum-told c = search needs
 
 returns : tie.Need-returns
-unfolding childAt
+unfolding namedChild
 returns c = rw (sym (asked (c .before .before)) ∙ c .enum-told .given .1)
 
 add-is-named : tie.Need-add-is-named
@@ -75,19 +75,19 @@ is-named-requires : tie.Need-is-named-requires
 is-named-requires c κs = (search needs, child-below (c .before))
 
 returns-2 : tie.Need-returns-2
-unfolding childAt
+unfolding namedChild
 returns-2 c =
     let n = c .before in
     rw (read-is (n .before .before .before), sym (named-is n) ∙ c .if1 .taken)
 
 returns-3 : tie.Need-returns-3
-unfolding childAt
+unfolding namedChild
 returns-3 c =
     let n = c .before in
     rw (read-is (n .before .before .before), sym (named-is n) ∙ c .if1 .left)
 
-pub child-at-spec : {M : Type 1} → statement M
-child-at-spec =
+pub named-child-spec : {M : Type 1} → statement M
+named-child-spec =
     tie.close
     (tie.spec
     chunk-bytes-requires
