@@ -4,7 +4,6 @@ ghost use mathlib.Core.Path.{_≡_};
 ghost use Rattle.listing.specs.Listing.{fiveOf};
 ghost use Rattle.numbers.specs.Numbers.{recordIn, recordNumbers, refusalCode, openCode, openRecord, lookupCode, lookupNumbers, replyCode, replyNumbers, batchCode, cursorIn, cursorNumbers, stepCode, stepCursor, stepNumbers, ownCode, ownNumbers, pageCode, pageNumbers, writeCode, writeNumbers};
 use batch::Batched;
-use refusals::Refusal;
 use book::Report;
 use header::Record;
 use listing::Cursor;
@@ -14,6 +13,7 @@ use listing::Step;
 use lookup::Answer;
 use lookup::Reply;
 use opening::Opened;
+use refusals::Refusal;
 use writer::Written;
 
 // The numbers of a record; `HODS_RECORD` in include/hodsplinter.h is how many there are.

@@ -17,7 +17,6 @@ use Rattle.opening.specs.declared.Opened.the-variants.{Refused}
 use Rattle.opening.specs.Passes.{surveyed, surveyedBy}
 use Rattle.opening.specs.declared.Survey.the-variants.{Fault, Listings}
 
-
 -- ---- one turn, with n chunks left from c on
 
 module _ (D : ℕ → Parsed) (n c l : ℕ) where

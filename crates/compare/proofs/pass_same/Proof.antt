@@ -17,7 +17,7 @@ returns-2 : tie.Need-returns-2
 returns-2 c = passed-none _ _ _ _ _
 
 pass-inside-requires : tie.Need-pass-inside-requires
-pass-inside-requires c κs = (held (c .before .before .before .fits2 .ensures) (c .before .before .if1 .left), held (c .before .fits3 .ensures) (c .if2 .left))
+pass-inside-requires c κs = (held (c .before .before .before .record-fits .ensures) (c .before .before .if1 .left), held (c .before .record-fits2 .ensures) (c .if2 .left))
 
 returns-3 : tie.Need-returns-3
 returns-3 c = c .pass-inside .ensures

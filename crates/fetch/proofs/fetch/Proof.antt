@@ -2,7 +2,7 @@ use mathlib.Core.Path.{sym, ap, _∙_}
 use denote.Ref.{now}
 use borrow.Author.Needs.{needs}
 use Rattle.fields.proofs.Tests.{held, failed}
-use Rattle.book.proofs.Laws.{record-fits-told}
+use Rattle.book.proofs.Laws.{fits-told}
 use Rattle.lookup.specs.declared.Reply.the-variants.{Refused}
 use Rattle.lookup.proofs.Replies.{replied-name, replied-record, replied-search}
 use Rattle.fetch.specs.Fetch.{fetched}
@@ -38,7 +38,7 @@ returns-2 c =
     let a = n .before .before .before .args in
     promised (now (a .file)) (a .book) (now (a .name)) _
     (ap (λ x. Refused x) (c .refuse2 .ensures)
-    ∙ sym (replied-record (now (a .file)) (a .book) (now (a .name)) _ (held (n .is-askable .ensures) (f .before .if1 .left)) (failed (f .fits2 .ensures) (c .before .if2 .taken))))
+    ∙ sym (replied-record (now (a .file)) (a .book) (now (a .name)) _ (held (n .is-askable .ensures) (f .before .if1 .left)) (failed (f .record-fits .ensures) (c .before .if2 .taken))))
 
 top-chunk-requires : tie.Need-top-chunk-requires
 top-chunk-requires c κs = search needs
@@ -48,7 +48,7 @@ fetch-from-requires c κs =
     let e = c .before in
     let f = e .before in
     let a = f .before .before .before .before .before .args in
-    let h = record-fits-told (now (a .file)) (a .book) (held (f .fits2 .ensures) (e .if2 .left)) in
+    let h = fits-told (now (a .file)) (a .book) (held (f .record-fits .ensures) (e .if2 .left)) in
     h .some-levels
 
 returns-3 : tie.Need-returns-3
@@ -61,7 +61,7 @@ returns-3 c =
     let a = n .before .before .before .args in
     promised (now (a .file)) (a .book) (now (a .name)) _
     (rw (← t .top-chunk .ensures) (c .fetch-from .ensures)
-    ∙ sym (replied-search (now (a .file)) (a .book) (now (a .name)) _ (held (n .is-askable .ensures) (f .before .if1 .left)) (held (f .fits2 .ensures) (e .if2 .left))))
+    ∙ sym (replied-search (now (a .file)) (a .book) (now (a .name)) _ (held (n .is-askable .ensures) (f .before .if1 .left)) (held (f .record-fits .ensures) (e .if2 .left))))
 
 pub fetch-spec : {M : Type 1} → statement M
 fetch-spec =

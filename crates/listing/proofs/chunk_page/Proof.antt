@@ -13,7 +13,7 @@ use Rattle.listing.proofs.chunk_page.Statement.{statement}
 use Rattle.listing.proofs.chunk_page.Tie as tie
 
 fits-is : (c : tie.Else1) → let a = c .before .before .before .before .args in recordFits (now (a .file)) (a .book) ≡ true
-fits-is c = held (c .before .fits2 .ensures) (c .if1 .left)
+fits-is c = held (c .before .record-fits .ensures) (c .if1 .left)
 
 -- the chunk that was checked-chunk is a listing chunk, with the next that the code has
 met-is : (c : tie.After-known-told) → let a = c .before .before .before .before .before .before .before .before .args in
@@ -33,7 +33,7 @@ refuse-requires c κs = search needs
 returns : tie.Need-returns
 returns c =
     let a = c .before .before .before .before .before .args in
-    let r = page-unfit (now (a .file)) (a .book) (a .chunk) (now (a .out)) (failed (c .before .before .fits2 .ensures) (c .before .if1 .taken)) in
+    let r = page-unfit (now (a .file)) (a .book) (a .chunk) (now (a .out)) (failed (c .before .before .record-fits .ensures) (c .before .if1 .taken)) in
     (ap Refused (c .refuse .ensures) ∙ r .0, r .1)
 
 checked-chunk-requires : tie.Need-checked-chunk-requires

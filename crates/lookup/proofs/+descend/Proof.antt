@@ -160,7 +160,7 @@ descend-refuse-requires : (t : ℕ) → descend-lts.Need-refuse-requires (callee
 descend-refuse-requires t c κs = search needs
 
 descend-same-length-2 : (t : ℕ) → descend-lts.Need-same-length-2 (callees t) (descend-at t) descend.Post
-descend-same-length-2 t c = c .before .before .mark2 .kept .1 .0 ∙ c .before .before .before .before .before .before .before .descend .kept .1 .1 .1 .1 .1 .0
+descend-same-length-2 t c = c .before .before .mark-trail2 .kept .1 .0 ∙ c .before .before .before .before .before .before .before .descend .kept .1 .1 .1 .1 .1 .0
 
 descend-returns-2 : (t : ℕ) → descend-lts.Need-returns-2 (callees t) (descend-at t) descend.Post
 descend-returns-2 t c =
@@ -170,12 +170,12 @@ descend-returns-2 t c =
     let k = d .before .before .before in
     let a = k .before .before .before .before .before .before .before .args in
     going-down (now (a .file)) (a .book) (now (a .name)) (a .c) (a .level) (a .i) (a .spent) (now (a .trail)) (d .descend .result)
-    (d .descend .last .1 .1 .1 .1 .1 .0) (m .mark2 .last .1 .0)
-    (m .mark2 .ensures ∙ ap (λ (x : Bool). cond x (d .descend .last .1 .1 .1 .1 .1 .0) (set (d .descend .last .1 .1 .1 .1 .1 .0) (a .i) (a .c))) (f .is-refusal2 .ensures))
+    (d .descend .last .1 .1 .1 .1 .1 .0) (m .mark-trail2 .last .1 .0)
+    (m .mark-trail2 .ensures ∙ ap (λ (x : Bool). cond x (d .descend .last .1 .1 .1 .1 .1 .0) (set (d .descend .last .1 .1 .1 .1 .1 .0) (a .i) (a .c))) (f .is-refusal2 .ensures))
     (omega arith) (k .child .given .0 .0) (k .child .given .0 .1 .0) (way-down t k) (d .descend .ensures)
 
 descend-same-length-3 : (t : ℕ) → descend-lts.Need-same-length-3 (callees t) (descend-at t) descend.Post
-descend-same-length-3 t c = c .before .before .mark3 .kept .1 .0
+descend-same-length-3 t c = c .before .before .mark-trail3 .kept .1 .0
 
 descend-returns-3 : (t : ℕ) → descend-lts.Need-returns-3 (callees t) (descend-at t) descend.Post
 descend-returns-3 t c =
@@ -184,7 +184,7 @@ descend-returns-3 t c =
     let a = e .before .before .before .before .before .before .before .args in
     at-end (now (a .file)) (a .book) (now (a .name)) (a .c) (a .level) (a .i) (a .spent) (now (a .trail))
     (Absent (record { chunks = a .i + 1; comparisons = a .spent + e .count .given .0 .0 }))
-    (now (a .trail)) (m .mark3 .last .1 .0) (m .mark3 .ensures)
+    (now (a .trail)) (m .mark-trail3 .last .1 .0) (m .mark-trail3 .ensures)
     (omega arith) (e .count .given .0 .0) (way-ends t e) refl refl
 
 descend-returns-4 : (t : ℕ) → descend-lts.Need-returns-4 (callees t) (descend-at t) descend.Post

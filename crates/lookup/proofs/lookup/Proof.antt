@@ -3,7 +3,7 @@ use native.Mathlib.Omega.{arith}
 use denote.Ref.{now}
 use borrow.Author.Needs.{needs}
 use Rattle.fields.proofs.Tests.{held, failed}
-use Rattle.book.proofs.Laws.{record-fits-told}
+use Rattle.book.proofs.Laws.{fits-told}
 use Rattle.lookup.specs.declared.Answer.the-variants.{Refused}
 use Rattle.lookup.proofs.Promised.{name-bad, trail-short, record-bad, descended}
 use Rattle.lookup.proofs.lookup.Statement.{statement}
@@ -43,7 +43,7 @@ returns-3 c =
     let f = e .before .before in
     let a = f .before .before .before .before .before .args in
     record-bad (now (a .file)) (a .book) (now (a .name)) (now (a .trail)) (held (f .before .is-askable .ensures) (e .before .if1 .left)) (omega arith) (Refused (c .refuse3 .result))
-    (failed (f .fits2 .ensures) (c .before .if3 .taken)) (ap Refused (c .refuse3 .ensures))
+    (failed (f .record-fits .ensures) (c .before .if3 .taken)) (ap Refused (c .refuse3 .ensures))
 
 top-chunk-requires : tie.Need-top-chunk-requires
 top-chunk-requires c κs = search needs
@@ -53,7 +53,7 @@ descend-requires c κs =
     let e = c .before .before in
     let f = e .before .before .before in
     let a = f .before .before .before .before .before .args in
-    let h = record-fits-told (now (a .file)) (a .book) (held (f .fits2 .ensures) (e .if3 .left)) in
+    let h = fits-told (now (a .file)) (a .book) (held (f .record-fits .ensures) (e .if3 .left)) in
     search needs
 
 same-length : tie.Need-same-length
@@ -67,7 +67,7 @@ returns-4 c =
     let f = e .before .before .before in
     let a = f .before .before .before .before .before .args in
     descended (now (a .file)) (a .book) (now (a .name)) (now (a .trail)) (held (f .before .is-askable .ensures) (e .before .before .if1 .left)) (omega arith) (d .descend .result) (d .descend .last .1 .1 .1 .1 .1 .0)
-    (held (f .fits2 .ensures) (e .if3 .left)) (rw (← t .top-chunk .ensures) (d .descend .ensures))
+    (held (f .record-fits .ensures) (e .if3 .left)) (rw (← t .top-chunk .ensures) (d .descend .ensures))
 
 pub lookup-spec : {M : Type 1} → statement M
 lookup-spec =

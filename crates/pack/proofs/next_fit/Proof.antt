@@ -56,12 +56,12 @@ fits-chunk-requires c κs = search needs
 returns-3 : tie.Need-returns-3
 returns-3 c =
     let s = c .before .before .before in
-    fit-taken _ _ _ _ _ _ _ _ _ _ (read-is (s .before .before) .some) (read-is (s .before .before) .item) _ (sized s) _ (c .before .fits2 .ensures) (c .if2 .taken)
+    fit-taken _ _ _ _ _ _ _ _ _ _ (read-is (s .before .before) .some) (read-is (s .before .before) .item) _ (sized s) _ (c .before .fits-chunk .ensures) (c .if2 .taken)
 
 returns-4 : tie.Need-returns-4
 returns-4 c =
     let s = c .before .before .before in
-    fit-left _ _ _ _ _ _ _ _ _ _ (read-is (s .before .before) .some) (read-is (s .before .before) .item) _ (sized s) _ (c .before .fits2 .ensures) (c .if2 .left)
+    fit-left _ _ _ _ _ _ _ _ _ _ (read-is (s .before .before) .some) (read-is (s .before .before) .item) _ (sized s) _ (c .before .fits-chunk .ensures) (c .if2 .left)
 
 pub next-fit-spec : {M : Type 1} → statement M
 next-fit-spec =

@@ -42,7 +42,7 @@ returns-2 c =
     let a = e .before .before .before .before .before .args in
     promised (now (a .file)) (a .book) (now (a .name)) _
     (ap (λ x. Refused x) (c .refuse2 .ensures)
-    ∙ sym (replied-record (now (a .file)) (a .book) (now (a .name)) _ (good-name e) (failed (e .before .fits2 .ensures) (c .before .if2 .taken))))
+    ∙ sym (replied-record (now (a .file)) (a .book) (now (a .name)) _ (good-name e) (failed (e .before .record-fits .ensures) (c .before .if2 .taken))))
 
 scan-chain-requires : tie.Need-scan-chain-requires
 scan-chain-requires c κs = search needs
@@ -54,7 +54,7 @@ returns-3 c =
     let a = e .before .before .before .before .before .args in
     promised (now (a .file)) (a .book) (now (a .name)) _
     (c .scan-chain .ensures
-    ∙ sym (replied-search (now (a .file)) (a .book) (now (a .name)) _ (good-name e) (held (e .before .fits2 .ensures) (c .before .if2 .left))))
+    ∙ sym (replied-search (now (a .file)) (a .book) (now (a .name)) _ (good-name e) (held (e .before .record-fits .ensures) (c .before .if2 .left))))
 
 pub scan-spec : {M : Type 1} → statement M
 scan-spec =

@@ -21,14 +21,14 @@ add-t11 : tie.Need-add-t11
 add-t11 c = search needs
 
 returns : tie.Need-returns
-returns c = added-here _ _ _ _ _ (c .before .before .before .before .before .pre .sized) _ (c .before .before .fits2 .ensures) (c .before .if1 .taken)
+returns c = added-here _ _ _ _ _ (c .before .before .before .before .before .pre .sized) _ (c .before .before .fits-chunk .ensures) (c .before .if1 .taken)
 
 add-if2 : tie.Need-add-if2
 add-if2 c = search needs
 
 returns-2 : tie.Need-returns-2
 returns-2 c =
-    added-next _ _ _ _ _ (c .before .before .before .before .before .pre .sized) _ (c .before .before .fits2 .ensures) (c .before .if1 .left) _ (sym (set-out _ _ _ (c .if2 .taken)))
+    added-next _ _ _ _ _ (c .before .before .before .before .before .pre .sized) _ (c .before .before .fits-chunk .ensures) (c .before .if1 .left) _ (sym (set-out _ _ _ (c .if2 .taken)))
 
 mul-starts : tie.Need-mul-starts
 mul-starts c = search needs
@@ -40,7 +40,7 @@ same-length : tie.Need-same-length
 same-length c = search needs
 
 returns-3 : tie.Need-returns-3
-returns-3 c = added-next _ _ _ _ _ (c .before .before .before .before .before .pre .sized) _ (c .before .before .fits2 .ensures) (c .before .if1 .left) _ refl
+returns-3 c = added-next _ _ _ _ _ (c .before .before .before .before .before .pre .sized) _ (c .before .before .fits-chunk .ensures) (c .before .if1 .left) _ refl
 
 pub add-spec : {M : Type 1} → statement M
 add-spec =

@@ -13,7 +13,7 @@ use Rattle.listing.proofs.Cursor.own.Statement.{statement}
 use Rattle.listing.proofs.Cursor.own.Tie as tie
 
 fits-is : (c : tie.Else1) → let a = c .before .before .before .args in recordFits (now (a .file)) (a .book) ≡ true
-fits-is c = held (c .before .fits2 .ensures) (c .if1 .left)
+fits-is c = held (c .before .record-fits .ensures) (c .if1 .left)
 
 linked-is : (c : tie.After-enum-told) → let a = c .before .before .before .before .before .before .args in
     Linked (now (a .file)) (a .book) (a .self .chunk) (c .enum-told .given .0 .0) (c .enum-told .given .0 .1 .0)
@@ -31,7 +31,7 @@ returns : tie.Need-returns
 returns c =
     let g = c .before .before in
     let a = g .before .args in
-    owned-answer (now (a .file)) (λ j. g .shared-slice-known .given j .record-fits) (a .book) (a .self) _ (sym (own-unfit _ _ _ (failed (c .before .fits2 .ensures) (c .if1 .taken))))
+    owned-answer (now (a .file)) (λ j. g .shared-slice-known .given j .fits) (a .book) (a .self) _ (sym (own-unfit _ _ _ (failed (c .before .record-fits .ensures) (c .if1 .taken))))
 
 checked-chunk-requires : tie.Need-checked-chunk-requires
 checked-chunk-requires c κs = search needs
@@ -44,7 +44,7 @@ returns-2 c =
     let m = c .before in
     let g = m .before .before .before in
     let a = g .before .args in
-    owned-answer (now (a .file)) (λ j. g .shared-slice-known .given j .record-fits) (a .book) (a .self) _ (sym (own-other _ _ _ (checked-no-listing (now (a .file)) (a .book) (a .self .chunk) (m .checked-chunk .result) (m .checked-chunk .ensures) (c .match .keys2))))
+    owned-answer (now (a .file)) (λ j. g .shared-slice-known .given j .fits) (a .book) (a .self) _ (sym (own-other _ _ _ (checked-no-listing (now (a .file)) (a .book) (a .self .chunk) (m .checked-chunk .result) (m .checked-chunk .ensures) (c .match .keys2))))
 
 chunk-bytes-requires : tie.Need-chunk-bytes-requires
 chunk-bytes-requires c κs = search needs
@@ -72,7 +72,7 @@ returns-3 c =
     let l = linked-is t in
     let g = t .before .before .before .before .before in
     let a = g .before .args in
-    owned-answer (now (a .file)) (λ j. g .shared-slice-known .given j .record-fits) (a .book) (a .self) _
+    owned-answer (now (a .file)) (λ j. g .shared-slice-known .given j .fits) (a .book) (a .self) _
     (ap At (c .own-of .ensures) ∙ sym (own-there _ _ _ (fits-is (t .before .before .before)) (l .below) (l .kind) _ (sym (sought-is n) ∙ e .e .given .1)))
 
 returns-4 : tie.Need-returns-4
@@ -82,7 +82,7 @@ returns-4 c =
     let l = linked-is t in
     let g = t .before .before .before .before .before in
     let a = g .before .args in
-    owned-answer (now (a .file)) (λ j. g .shared-slice-known .given j .record-fits) (a .book) (a .self) _
+    owned-answer (now (a .file)) (λ j. g .shared-slice-known .given j .fits) (a .book) (a .self) _
     (sym (own-missing _ _ _ (fits-is (t .before .before .before)) (l .below) (l .kind) (sym (sought-is n) ∙ c .enum-told2 .given .1)))
 
 pub own-spec : {M : Type 1} → statement M

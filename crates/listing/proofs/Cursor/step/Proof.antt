@@ -13,7 +13,7 @@ use Rattle.listing.proofs.Cursor.step.Statement.{statement}
 use Rattle.listing.proofs.Cursor.step.Tie as tie
 
 fits-is : (c : tie.Else1) → let a = c .before .before .before .args in recordFits (now (a .file)) (a .book) ≡ true
-fits-is c = held (c .before .fits2 .ensures) (c .if1 .left)
+fits-is c = held (c .before .record-fits .ensures) (c .if1 .left)
 
 met-is : (c : tie.After-known-told) → let a = c .before .before .before .before .before .before .before .before .before .before .args in
     checkedChunk (now (a .file)) (a .book) (a .self .chunk) ≡ Listing (c .before .next .given .0 .0) (c .before .next .given .0 .1 .0)
@@ -32,7 +32,7 @@ refuse-requires c κs = search needs
 returns : tie.Need-returns
 returns c =
     let a = c .before .before .before .before .args in
-    ap Refused (c .refuse .ensures) ∙ sym (step-unfit (now (a .file)) (a .book) (a .self) (failed (c .before .before .fits2 .ensures) (c .before .if1 .taken)))
+    ap Refused (c .refuse .ensures) ∙ sym (step-unfit (now (a .file)) (a .book) (a .self) (failed (c .before .before .record-fits .ensures) (c .before .if1 .taken)))
 
 no-chunk-requires : tie.Need-no-chunk-requires
 no-chunk-requires c κs = search needs

@@ -11,7 +11,7 @@ use Rattle.walk.proofs.Walk.peek.Statement.{statement}
 use Rattle.walk.proofs.Walk.peek.Tie as tie
 
 fits-is : (c : tie.Else1) → let a = c .before .before .before .args in recordFits (now (a .file)) (a .book) ≡ true
-fits-is c = held (c .before .fits2 .ensures) (c .if1 .left)
+fits-is c = held (c .before .record-fits .ensures) (c .if1 .left)
 
 record-fits-requires : tie.Need-record-fits-requires
 record-fits-requires c κs = search needs
@@ -22,7 +22,7 @@ no-reading-requires c κs = search needs
 returns : tie.Need-returns
 returns c =
     let a = c .before .before .before .before .args in
-    ap Refused (c .no-reading .ensures) ∙ sym (peek-unfit (now (a .file)) (a .book) (a .self) (failed (c .before .before .fits2 .ensures) (c .before .if1 .taken)))
+    ap Refused (c .no-reading .ensures) ∙ sym (peek-unfit (now (a .file)) (a .book) (a .self) (failed (c .before .before .record-fits .ensures) (c .before .if1 .taken)))
 
 enter-requires : tie.Need-enter-requires
 enter-requires c κs = search needs
