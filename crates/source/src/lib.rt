@@ -45,8 +45,9 @@ pub fn step(input: &[u8], starts: &[usize], content: u64, from: Cursor) -> Item
         return Item::Bad;
     }
     let kind = from.kind;
-    match kind {
-        Kind::Listing => entries::listing_at(input, from.at, content),
-        Kind::Index => child_entry(input, starts, from.at),
+    // not a match: the compiler would then put this into `pack::next_fit`, which would no longer go into the writer's loop (DECISIONS 93)
+    if let Kind::Listing = kind {
+        return entries::listing_at(input, from.at, content);
     }
+    child_entry(input, starts, from.at)
 }

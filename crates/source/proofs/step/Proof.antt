@@ -31,4 +31,4 @@ unfolding itemFrom
 returns-3 c = let i = c .before in rw (i .enum-told2 .given .1) (c .child-entry .ensures ∙ taken-some _ _ (i .before .before .if1 .left))
 
 pub step-spec : {M : Type 1} → statement M
-step-spec = tie.close (tie.spec returns enum-told listing-at-requires enum-told-2 child-entry-requires returns-2 returns-3)
+step-spec = tie.close (tie.spec returns enum-told listing-at-requires returns-2 enum-told-2 child-entry-requires returns-3)
