@@ -17,7 +17,6 @@ use Rattle.fetch.specs.Fetch.{fetched}
 use Rattle.fetch.proofs.Agreed.{fetched-same}
 use Rattle.batch.specs.Batch.{Names, namesIn, resultOf, resultFor, answerable, batchOf, answersIn}
 use Rattle.batch.specs.Step.{countedAs, resultsBy, batchIn, answersBy}
-use Rattle.batch.specs.declared.Batched.{Batched}
 use Rattle.batch.specs.declared.Batched.the-variants.{Answered, Refused}
 use Rattle.batch.specs.declared.Counted.the-variants.{All, Cut}
 

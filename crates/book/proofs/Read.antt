@@ -1,27 +1,24 @@
 -- The entries of a listing chunk that passed its check, as they are read: their count, each behind the one before it, and what is reported of them.
-use mathlib.Core.Path.{_≡_, refl, sym, ap, _∙_}
-use mathlib.Core.Bool.{Bool, true, false, cond}
+use mathlib.Core.Path.{_≡_, sym, ap, _∙_}
+use mathlib.Core.Bool.{true}
 use mathlib.Core.List.{List, _∷_}
-use Prim.Native.Nat.{ℕ, zero, suc, _+_, _-_, _/_, _%_, _≤_, _<_}
+use Prim.Native.Nat.{ℕ, zero, suc, _+_, _-_, _≤_, _<_}
 use native.Mathlib.Omega.{arith}
 use lib.ListN.{length, getD, drop}
 use lib.Seq.{drop-drop}
-use lib.Dec.{ltb}
-use borrow.Author.Tests.{ltb-true}
 use Rattle.fields.specs.Part.{part, partOf}
 use Rattle.fields.proofs.Parts.{length-part}
 use Rattle.encint.specs.Encint.{encoded}
 use Rattle.entries.specs.Entry.{itemAt, nameOf}
 use Rattle.entries.specs.declared.Limits.{Limits}
 use Rattle.entries.specs.declared.Place.{Place}
-use Rattle.entries.specs.declared.Item.{Item}
-use Rattle.entries.specs.declared.Item.the-variants.{Good, Bad}
+use Rattle.entries.specs.declared.Item.the-variants.{Good}
 use Rattle.entries.proofs.Laws.{item-inside}
 use Rattle.entries.proofs.Padded.{entry-stands}
 use Rattle.entries.specs.declared.Kind.the-variants.{Listing}
-use Rattle.chunk.specs.Chunk.{Entry, all, entryOf, entriesAt, entryCount, tailLength, spacingOf, entriesIn, firstPlace}
+use Rattle.chunk.specs.Chunk.{Entry, all, entryOf, entriesAt, entryCount, tailLength, entriesIn, firstPlace}
 use Rattle.chunk.proofs.Accepted.{Accepted, chunk-accepted, entries-more, entries-count}
-use Rattle.seek.specs.Seek.{absent, found, nth, soughtOf, afterAt, groupAt, nthIn}
+use Rattle.seek.specs.Seek.{absent, found, nth, soughtOf, nthIn}
 use Rattle.seek.specs.declared.Hit.the-variants.{At, Nothing}
 use Rattle.seek.proofs.Steps.{nth-read}
 use Rattle.seek.proofs.Good.{nth-good}

@@ -16,8 +16,8 @@ use Rattle.walk.specs.Walk.{afterOf, comingAt, weight}
 use Rattle.walk.specs.Exact.{Comes, Reads}
 use Rattle.walk.specs.declared.Walk.{Walk}
 use Rattle.walk.specs.declared.Coming.the-variants.{End as Over}
-use Rattle.compare.specs.Course.{left, right, both, Course, over, next, heldName, secondAlone, against, merged, pairs, ending, sameNumbers, differences, oneFirst, oneSecond, oneSame, oneChanged, totalsFrom}
-use Rattle.compare.specs.Compare.{refusedBy, bothAt, turned, stepFrom}
+use Rattle.compare.specs.Course.{left, right, both, Course, next, heldName, secondAlone, against, merged, pairs, ending, sameNumbers, differences, oneFirst, oneSecond, oneSame, oneChanged, totalsFrom}
+use Rattle.compare.specs.Compare.{bothAt, turned, stepFrom}
 use Rattle.compare.specs.Compared.{Difference, only-first, only-second, changed, shownOf, differenceOf, lastStep}
 use Rattle.compare.specs.declared.Totals.{Totals}
 use Rattle.compare.specs.declared.Cursor.{Cursor}

@@ -1,10 +1,10 @@
 -- A step goes from name to name: what one name tells ends it. Each name leaves the two books with fewer entries to come (`turn-falls`, `step-falls`); one with
 -- nothing to tell leaves the first with fewer.
-use mathlib.Core.Path.{_≡_, refl, sym, subst}
+use mathlib.Core.Path.{_≡_, subst}
 use mathlib.Core.Logic.{⊎-elim}
 use mathlib.Core.Bool.{Bool, true, false, cond}
 use mathlib.Core.List.{List}
-use Prim.Native.Nat.{ℕ, zero, suc, _+_, _≤_, _<_}
+use Prim.Native.Nat.{ℕ, zero, suc, _≤_, _<_}
 use native.Mathlib.Omega.{arith}
 use Rattle.entries.specs.declared.Place.{Place}
 use Rattle.header.specs.declared.Record.{Record}
@@ -14,7 +14,6 @@ use Rattle.walk.specs.declared.Coming.the-variants.{Entry}
 use Rattle.walk.proofs.Falling.{peek-falls, peek-keeps}
 use Rattle.compare.specs.Course.{oneSame, oneChanged}
 use Rattle.compare.specs.Compare.{bothAt, shownAt, sameAt, inBoth, turned, onTurn, stepFrom, compareStep, load, Lighter}
-use Rattle.compare.specs.declared.Totals.{Totals}
 use Rattle.compare.specs.declared.Cursor.{Cursor}
 use Rattle.compare.specs.declared.Step.{Step}
 use Rattle.compare.specs.declared.Step.the-variants.{First, Second, Changed, End, Refused}

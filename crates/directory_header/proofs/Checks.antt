@@ -14,12 +14,12 @@ module _ (d : List ℕ) (n : ℕ) where
   unfolding directoryHeaderOf
   directory-good a b = rw (a, b)
 
-  pub directory-rules : (f : DirectoryFields) → directoryHeaderOf d n ≡ Good f → (f ≡ directoryFieldsOf d) × (directoryRight (directoryFieldsOf d) n ≡ true)
+  pub directory-rules : (f : DirectoryFields) → directoryHeaderOf d n ≡ Good f → (f ≡ directoryFieldsOf d) × (directoryRight (directoryFieldsOf d) n ≡ true) × (directoryTagged d ≡ true)
   unfolding directoryHeaderOf
   directory-rules f = go (directoryTagged d) (directoryRight (directoryFieldsOf d) n)
     where
-      go : (a b : Bool) → cond a (cond b (Good (directoryFieldsOf d)) (Refused 7)) (Refused 6) ≡ Good f → (f ≡ directoryFieldsOf d) × (b ≡ true)
-      go true true e = (cc, refl)
+      go : (a b : Bool) → cond a (cond b (Good (directoryFieldsOf d)) (Refused 7)) (Refused 6) ≡ Good f → (f ≡ directoryFieldsOf d) × (b ≡ true) × (a ≡ true)
+      go true true e = (cc, refl, refl)
       go true false e = absurd (let z : _≡_ {A = ℕ} 0 1 = cc in omega arith)
       go false b e = absurd (let z : _≡_ {A = ℕ} 0 1 = cc in omega arith)
 

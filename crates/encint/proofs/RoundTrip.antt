@@ -1,15 +1,12 @@
 -- What was written is read back, whatever stands before and behind it.
-use mathlib.Core.Path.{_≡_, refl, ap, ap₂, _∙_}
+use mathlib.Core.Path.{_≡_, ap, ap₂, _∙_}
 use mathlib.Core.List.{List, _∷_, _++_}
 use Prim.Native.Nat.{ℕ, zero, suc, _+_, _-_, _*_, _/_, _%_, _^_, _≤_, _<_}
 use native.Mathlib.Nat.{pow-suc, zero-add, add-zero}
 use native.Mathlib.Numerals.{sub-one}
 use native.Mathlib.Omega.{arith}
-use lib.ListN.{length, take, drop}
-use lib.Seq.{sets, drop-at, length-take-le}
-use Rattle.fields.specs.Put.{put}
-use Rattle.fields.proofs.Put.{put-inside, sets-parts}
-use Rattle.encint.specs.Encint.{rest, decoded, encintAt, sevenBitGroups, leading, encoded}
+use lib.ListN.{length}
+use Rattle.encint.specs.Encint.{rest, decoded, sevenBitGroups, leading, encoded}
 use Rattle.encint.specs.declared.Number.the-variants.{Value}
 use Rattle.encint.proofs.Reading.{rest-last, rest-more}
 use Rattle.encint.proofs.Writing.{leading-append, encoded-is, length-encoded, groups-are}
@@ -46,17 +43,3 @@ module _ (v : ℕ) (h : v < 2 ^ 63) where
       let r = groups-are 8 (v / 128) (omega arith) in
       let e : encoded v ++ t ≡ leading k (v / 128) (v % 128 ∷ t) = rw (encoded-is v h, leading-append) in
       rw e (read-all (v / 128) k (v % 128) at t (r .few) (r .all) (omega arith) ∙ ap₂ Value (omega arith) (omega (arith, length-encoded v h)))
-
-  -- between other bytes
-  pub encint-encoded : (p t : List ℕ) → encintAt (p ++ (encoded v ++ t)) (length p) ≡ Value v (length p + length (encoded v))
-  unfolding encintAt
-  encint-encoded p t = rw (drop-at p (encoded v ++ t) (length p) refl) (round-trip (length p) t)
-
-  -- in a list that it was written into
-  pub encint-sets : (s : List ℕ) (at : ℕ) → at + length (encoded v) ≤ length s → encintAt (sets s at (encoded v)) at ≡ Value v (at + length (encoded v))
-  encint-sets s at l =
-      let n : length (take at s) ≡ at = length-take-le at s (omega arith) in
-      rw (sets-parts s at (encoded v) l) (rw n at (encint-encoded (take at s) (drop (at + length (encoded v)) s)))
-
-  pub encint-put : (s : List ℕ) (at : ℕ) → at + length (encoded v) ≤ length s → encintAt (put s at (encoded v)) at ≡ Value v (at + length (encoded v))
-  encint-put s at l = rw (put-inside s at (encoded v) l) (encint-sets s at l)

@@ -3,11 +3,10 @@ use mathlib.Core.Path.{_≡_, refl, ap, sym, _∙_}
 use mathlib.Core.Bool.{cond}
 use mathlib.Core.List.{List, [], _∷_, _++_}
 use Prim.Native.Nat.{ℕ, zero, suc, _+_, _-_, _*_, _/_, _%_, _^_, _≤_, _<_}
-use native.Mathlib.Nat.{pow-suc, one-le-pow, suc-inj, zero-add, add-zero, add-suc}
+use native.Mathlib.Nat.{pow-suc, suc-inj, zero-add, add-zero, add-suc}
 use native.Mathlib.Numerals.{sub-one}
 use native.Mathlib.Decide.{decLt}
 use native.Mathlib.Omega.{arith}
-use lib.Dec.{lit<}
 use lib.ListN.{length, take, drop, set, take-append-drop}
 use lib.Seq.{take-set-le, sets}
 use borrow.Author.Tests.{lt-ltb, le-ltb, eq-eqb, ne-eqb}
@@ -80,18 +79,6 @@ groups-are (suc n) w h =
           record { few = omega (arith, r .few); all = rw pow-suc a; top = λ j e. rw (suc-inj e) at (up (sevenBitGroups n (w / 128)) w p (r .top)) }
       | no p ↦ rw (groups-zero (suc n) w (omega arith)) record { few = omega arith; all = omega arith; top = λ j e. absurd (omega arith) }
     ]
-
-pub groups-is : (n w k : ℕ) → Groups n w k → sevenBitGroups n w ≡ k
-groups-is n w zero r = groups-zero n w (omega (arith, r .all))
-groups-is zero w (suc k) r = absurd (omega (arith, r .few))
-groups-is (suc n) w (suc k) r =
-    let u : 128 ^ k ≤ w = r .top k refl in
-    let o : 1 ≤ 128 ^ k = one-le-pow k 128 (lit< tt) in
-    let x : w < 128 ^ k * 128 = rw pow-suc at (r .all) in
-    let d : Groups n (w / 128) k =
-    record { few = omega (arith, r .few); all = omega arith; top = λ j e. let y : 128 ^ j * 128 ≤ w = rw (e, pow-suc) at u in omega arith }
-    in
-    rw (groups-more n w (omega arith)) (ap suc (groups-is n (w / 128) k d))
 
 -- one to nine bytes
 pub encoded-some : (v : ℕ) → v < 2 ^ 63 → (0 < length (encoded v)) × (length (encoded v) ≤ 9)

@@ -9,7 +9,7 @@ use lib.ListN.{length, getD, take, drop, length-append}
 use lib.Seq.{sets, getD-append-seam, append-snoc, length-take-le}
 use Rattle.fields.specs.Le.{le, bytes}
 use Rattle.fields.specs.Part.{part}
-use Rattle.fields.proofs.Parts.{past, drop-more, getD-part}
+use Rattle.fields.proofs.Parts.{past, drop-more}
 use Rattle.fields.proofs.Put.{sets-parts}
 
 -- ---- reading
@@ -69,12 +69,6 @@ module _ (s t : List ℕ) (small-s : (i : ℕ) → getD s i 0 < 256) (small-t : 
       let x : getD s a 0 ≡ getD t b 0 = omega (arith, e, small-s a, small-t b) in
       let y : le k s (a + 1) ≡ le k t (b + 1) = omega (arith, e, small-s a, small-t b) in
       rw (drop-more s a (omega arith), drop-more t b (omega arith)) (ap₂ _∷_ x (le-tells k (a + 1) (b + 1) (omega arith) (omega arith) y))
-
--- a number inside a part
-pub le-part : (k : ℕ) (s : List ℕ) (at n i : ℕ) → i + k ≤ n → le k (part s at n) i ≡ le k s (at + i)
-le-part k s at n i h =
-    le-agree k (part s at n) s i (at + i)
-    (λ j l. let e : at + i + j ≡ at + (i + j) = omega arith in rw (getD-part s at n (i + j) (omega arith), e))
 
 -- ---- the loop: the bytes from i on are read, highest first
 

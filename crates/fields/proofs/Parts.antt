@@ -8,7 +8,7 @@ use native.Mathlib.Decide.{decLt}
 use native.Mathlib.Omega.{arith}
 use lib.Dec.{lit<}
 use lib.ListN.{length, getD, take, drop, length-take, length-drop, take-append-drop, List·getD-eq-default}
-use lib.Seq.{drop-cons, drop-drop, getD-take, getD-drop, length-take-le, take-nil, take-add, take-take, take-append-seam, drop-at}
+use lib.Seq.{drop-cons, drop-drop, getD-take, getD-drop, length-take-le, take-nil, take-add, take-take}
 use borrow.Author.Tests.{le-leb, lt-leb}
 use Rattle.fields.specs.Part.{part, partOf}
 
@@ -49,10 +49,6 @@ part-add s at n m = take-add n m (drop at s) ∙ ap (λ (r : List ℕ). part s a
 -- a part and all that is behind it
 pub part-rest : (s : List ℕ) (at n : ℕ) → drop at s ≡ part s at n ++ drop (at + n) s
 part-rest s at n = sym (take-append-drop n (drop at s)) ∙ ap (λ (r : List ℕ). part s at n ++ r) (drop-drop n at s)
-
--- the part in the middle
-pub part-middle : (p l q : List ℕ) → part (p ++ (l ++ q)) (length p) (length l) ≡ l
-part-middle p l q = rw (drop-at p (l ++ q) (length p) refl, take-append-seam)
 
 -- a part is read off any list that begins alike
 part-front : (x : List ℕ) (at n : ℕ) → part x at n ≡ drop at (take (at + n) x)

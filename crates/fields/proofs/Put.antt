@@ -1,12 +1,12 @@
 -- Writing into a list: laws of `sets`, the bytes written one by one, and of `put`.
-use mathlib.Core.Path.{_≡_, refl, ap, sym, _∙_}
+use mathlib.Core.Path.{_≡_, ap, sym, _∙_}
 use mathlib.Core.Bool.{true, false}
-use mathlib.Core.List.{List, [], _∷_, _++_, append-assoc, append-nil}
-use Prim.Native.Nat.{ℕ, suc, _+_, _-_, _≤_, _<_}
+use mathlib.Core.List.{List, [], _∷_, _++_, append-assoc}
+use Prim.Native.Nat.{ℕ, suc, _+_, _≤_, _<_}
 use native.Mathlib.Decide.{decLe}
 use native.Mathlib.Omega.{arith}
-use lib.ListN.{length, take, drop, set, replicate, drop-of-length-le}
-use lib.Seq.{set-comm, sets, sets-eq, length-sets}
+use lib.ListN.{length, take, drop, set}
+use lib.Seq.{sets, sets-eq, length-sets}
 use borrow.Author.Tests.{le-leb, lt-leb}
 use Rattle.fields.specs.Part.{inside}
 use Rattle.fields.specs.Put.{put}
@@ -18,13 +18,6 @@ use Rattle.fields.proofs.Tests.{cond-same}
 pub sets-parts : (s : List ℕ) (at : ℕ) (l : List ℕ) → at + length l ≤ length s → sets s at l ≡ take at s ++ (l ++ drop (at + length l) s)
 sets-parts s at l h = sets-eq l s at h ∙ append-assoc (take at s) l (drop (at + length l) s)
 
--- a run as long as the list takes its place
-pub sets-all : (s l : List ℕ) → length l ≡ length s → sets s 0 l ≡ l
-sets-all s l e =
-    sets-parts s 0 l (omega arith)
-    ∙ ap (λ (r : List ℕ). l ++ r) (drop-of-length-le s {i = 0 + length l} (omega arith))
-    ∙ append-nil l
-
 -- ---- two runs, one behind the other, are one: the first written first, or last
 
 pub sets-after : (s : List ℕ) (at : ℕ) (a b : List ℕ) → sets (sets s at a) (at + length a) b ≡ sets s at (a ++ b)
@@ -32,27 +25,10 @@ sets-after s at [] b = ap (λ (k : ℕ). sets s k b) (omega arith)
 sets-after s at (x ∷ a) b =
     ap (λ (k : ℕ). sets (sets (set s at x) (suc at) a) k b) (omega arith) ∙ sets-after (set s at x) (suc at) a b
 
--- a store in front of a run
-pub set-sets : (s : List ℕ) (i x at : ℕ) (l : List ℕ) → i < at → set (sets s at l) i x ≡ sets (set s i x) at l
-set-sets s i x at [] h = refl
-set-sets s i x at (y ∷ l) h =
-    set-sets (set s at y) i x (suc at) l (omega arith)
-    ∙ ap (λ (r : List ℕ). sets r (suc at) l) (set-comm s at i y x (omega arith))
-
-pub sets-before : (s : List ℕ) (at : ℕ) (a b : List ℕ) → sets (sets s (at + length a) b) at a ≡ sets s at (a ++ b)
-sets-before s at [] b = ap (λ (k : ℕ). sets s k b) (omega arith)
-sets-before s at (x ∷ a) b =
-    ap (λ (r : List ℕ). sets r (suc at) a) (set-sets s at x (at + suc (length a)) b (omega arith))
-    ∙ ap (λ (k : ℕ). sets (sets (set s at x) k b) (suc at) a) (omega arith)
-    ∙ sets-before (set s at x) (suc at) a b
-
 -- two calls that each write a run: the second right behind the first, or right before it
 module _ (at k : ℕ) (a b s t u : List ℕ) where
   pub sets-then : t ≡ sets s at a → k ≡ at + length a → u ≡ sets t k b → u ≡ sets s at (a ++ b)
   sets-then e h f = f ∙ ap (λ (l : List ℕ). sets l k b) e ∙ ap (λ (i : ℕ). sets (sets s at a) i b) h ∙ sets-after s at a b
-
-  pub sets-then-before : t ≡ sets s k b → k ≡ at + length a → u ≡ sets t at a → u ≡ sets s at (a ++ b)
-  sets-then-before e h f = f ∙ ap (λ (l : List ℕ). sets l at a) e ∙ ap (λ (i : ℕ). sets (sets s i b) at a) h ∙ sets-before s at a b
 
 -- ---- a loop that writes a run byte by byte: what is left to be written makes the whole
 
@@ -65,13 +41,6 @@ sets-turn at i b bs left out whole e h =
 -- nothing is left
 pub sets-end : (at : ℕ) (left out whole : List ℕ) → left ≡ [] → sets out at left ≡ whole → out ≡ whole
 sets-end at left out whole e h = ap (sets out at) (sym e) ∙ h
-
--- what is left of n equal bytes
-pub replicate-more : (n i x : ℕ) → i < n → replicate (n - i) x ≡ x ∷ replicate (n - (i + 1)) x
-replicate-more n i x h = let e : n - i ≡ suc (n - (i + 1)) = omega arith in rw e
-
-pub replicate-none : (n i x : ℕ) → n ≤ i → replicate (n - i) x ≡ []
-replicate-none n i x h = let e : n - i ≡ 0 = omega arith in rw e
 
 -- ---- a run with room, and without
 

@@ -56,6 +56,14 @@ pub section-good : (z : List ℕ) (size : ℕ) → lengthRight z size ≡ true �
 unfolding sectionZeroOf
 section-good z size e = rw e
 
+pub section-rules : (z : List ℕ) (size : ℕ) → sectionZeroOf z size ≡ CheckedSectionZero.Good → lengthRight z size ≡ true
+unfolding sectionZeroOf
+section-rules z size = go (lengthRight z size)
+  where
+    go : (t : Bool) → cond t CheckedSectionZero.Good (CheckedSectionZero.Refused 5) ≡ CheckedSectionZero.Good → t ≡ true
+    go true e = refl
+    go false e = absurd (let z : _≡_ {A = ℕ} 0 1 = cc in omega arith)
+
 pub section-refused : (z : List ℕ) (size n : ℕ) → sectionZeroOf z size ≡ CheckedSectionZero.Refused n → n ≡ 5
 unfolding sectionZeroOf
 section-refused z size n = go (lengthRight z size)

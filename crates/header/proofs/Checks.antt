@@ -32,24 +32,26 @@ module _ (s : List ℕ) where
     pub f : FileFields
     pub d : DirectoryFields
     pub file : fileHeaderOf (headerIn s) (length s) ≡ CheckedFileHeader.Good f
+    pub section : sectionZeroOf (sectionIn s f) (length s) ≡ CheckedSectionZero.Good
     pub directory : directoryHeaderOf (directoryIn s f) (f .length) ≡ CheckedDirectoryHeader.Good d
     pub is : recordFrom f d ≡ r
 
-  directory-both : (r : Record) (f : FileFields) → fileHeaderOf (headerIn s) (length s) ≡ CheckedFileHeader.Good f → directoryThen s f ≡ Good r → BothGood r
+  directory-both : (r : Record) (f : FileFields) → fileHeaderOf (headerIn s) (length s) ≡ CheckedFileHeader.Good f
+      → sectionZeroOf (sectionIn s f) (length s) ≡ CheckedSectionZero.Good → directoryThen s f ≡ Good r → BothGood r
   unfolding directoryThen
-  directory-both r f p = go (directoryHeaderOf (directoryIn s f) (f .length)) refl
+  directory-both r f p z = go (directoryHeaderOf (directoryIn s f) (f .length)) refl
     where
       go : (x : CheckedDirectoryHeader) → directoryHeaderOf (directoryIn s f) (f .length) ≡ x → afterDirectory f x ≡ Good r → BothGood r
-      go (CheckedDirectoryHeader.Good d) q e = record { f = f; d = d; file = p; directory = q; is = cc }
+      go (CheckedDirectoryHeader.Good d) q e = record { f = f; d = d; file = p; section = z; directory = q; is = cc }
       go (CheckedDirectoryHeader.Refused n) q e = absurd (let z : _≡_ {A = ℕ} 0 1 = cc in omega arith)
 
   section-both : (r : Record) (f : FileFields) → fileHeaderOf (headerIn s) (length s) ≡ CheckedFileHeader.Good f → sectionThen s f ≡ Good r → BothGood r
   unfolding sectionThen
-  section-both r f p = go (sectionZeroOf (sectionIn s f) (length s))
+  section-both r f p = go (sectionZeroOf (sectionIn s f) (length s)) refl
     where
-      go : (x : CheckedSectionZero) → afterSection s f x ≡ Good r → BothGood r
-      go CheckedSectionZero.Good e = directory-both r f p e
-      go (CheckedSectionZero.Refused n) e = absurd (let z : _≡_ {A = ℕ} 0 1 = cc in omega arith)
+      go : (x : CheckedSectionZero) → sectionZeroOf (sectionIn s f) (length s) ≡ x → afterSection s f x ≡ Good r → BothGood r
+      go CheckedSectionZero.Good q e = directory-both r f p q e
+      go (CheckedSectionZero.Refused n) q e = absurd (let z : _≡_ {A = ℕ} 0 1 = cc in omega arith)
 
   pub header-both : (r : Record) → headerOf s ≡ Good r → BothGood r
   unfolding headerOf

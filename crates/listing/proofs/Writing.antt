@@ -11,7 +11,7 @@ use Rattle.entries.specs.Entry.{itemAt}
 use Rattle.entries.specs.declared.Place.{Place}
 use Rattle.entries.specs.declared.Item.the-variants.{Good, Bad}
 use Rattle.entries.specs.declared.Kind.the-variants.{Listing}
-use Rattle.chunk.specs.Chunk.{Entry, all, entryOf, entriesAt, firstPlace, entryCount, tailLength, entriesIn}
+use Rattle.chunk.specs.Chunk.{Entry, all, entriesAt, firstPlace, entryCount, tailLength, entriesIn}
 use Rattle.header.specs.declared.Record.{Record}
 use Rattle.tree.specs.Shape.{isListing}
 use Rattle.book.specs.Book.{limitsOf, chunkBytes, directoryOf, reportOf, reportAt}

@@ -1,5 +1,5 @@
 -- Laws of the order of names, and what follows from the laws of any order.
-use mathlib.Core.Path.{_≡_, refl, sym, ap, _∙_}
+use mathlib.Core.Path.{_≡_, refl, ap, _∙_}
 use mathlib.Core.Logic.{_≢_, _⊎_, inl, inr, ⊎-elim}
 use mathlib.Core.Bool.{Bool, true, false, false≢true}
 use mathlib.Core.List.{List, [], _∷_, _++_}
@@ -38,11 +38,6 @@ isEqual-true Less h = absurd (false≢true h)
 isEqual-true Equal h = refl
 isEqual-true Greater h = absurd (false≢true h)
 
-pub notGreater-false : (o : Order) → notGreater o ≡ false → o ≡ Greater
-notGreater-false Less h = absurd (false≢true (sym h))
-notGreater-false Equal h = absurd (false≢true (sym h))
-notGreater-false Greater h = refl
-
 pub notGreater-true : (o : Order) → notGreater o ≡ true → (o ≡ Less) ⊎ (o ≡ Equal)
 notGreater-true Less h = inl refl
 notGreater-true Equal h = inr refl
@@ -69,13 +64,6 @@ module _ {A : Type 0} {compare : A → A → Order} (L : OrderLaws compare) wher
   pub not-less : (a b : A) → compare a b ≢ Less → notGreater (compare b a) ≡ true
   not-less a b h = rw (L .compare-flip a b) (not-less-flip (compare a b) h)
 
-  pub less-irreflexive : (a : A) → compare a a ≢ Less
-  less-irreflexive a p = let e = L .compare-self a in false≢true (cc)
-
-  -- a to b and b to c
-  pub equal-trans : (a b c : A) → compare a b ≡ Equal → compare b c ≡ Equal → compare a c ≡ Equal
-  equal-trans a b c p q = L .equal-left a b c p ∙ q
-
   pub equal-less : (a b c : A) → compare a b ≡ Equal → compare b c ≡ Less → compare a c ≡ Less
   equal-less a b c p q = L .equal-left a b c p ∙ q
 
@@ -84,13 +72,6 @@ module _ {A : Type 0} {compare : A → A → Order} (L : OrderLaws compare) wher
 
   pub notGreater-less : (a b c : A) → notGreater (compare a b) ≡ true → compare b c ≡ Less → compare a c ≡ Less
   notGreater-less a b c h q = ⊎-elim (λ e. L .less-trans a b c e q) (λ e. equal-less a b c e q) (notGreater-true (compare a b) h)
-
-  pub notGreater-trans : (a b c : A) → notGreater (compare a b) ≡ true → notGreater (compare b c) ≡ true → notGreater (compare a c) ≡ true
-  notGreater-trans a b c h k = ⊎-elim (λ e. ap notGreater (less-notGreater a b c e k)) (λ e. rw (L .equal-left a b c e) k) (notGreater-true (compare a b) h)
-
-  -- what is above c stays above it when it grows
-  pub greater-less : (a b c : A) → compare a c ≡ Greater → compare a b ≡ Less → compare b c ≡ Greater
-  greater-less a b c p q = flip-less c b (L .less-trans c a b (flip-greater a c p) q)
 
 -- ---- the tests of names
 

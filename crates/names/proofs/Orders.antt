@@ -87,14 +87,6 @@ module _ {A : Type 0} {compare : A → A → Order} (L : OrderLaws compare) (a b
       go Equal Greater e f p q = absurd (false≢true (cc))
       go Greater u e f p q = absurd (false≢true (cc))
 
-pub then-laws : {A : Type 0} {c d : A → A → Order} → OrderLaws c → OrderLaws d → OrderLaws (λ (a b : A). thenBy (c a b) (d a b))
-then-laws {c} {d} L M = record {
-  compare-self = λ x. rw (L .compare-self x) (M .compare-self x);
-  compare-flip = λ x y. rw (L .compare-flip x y, M .compare-flip x y) (then-flip (c x y) (d x y));
-  less-trans = λ x y z p q. then-trans L x y z (d x y) (d y z) (d x z) p q (M .less-trans x y z);
-  equal-left = λ x y z p. let e = then-equal (c x y) (d x y) p in ap₂ thenBy (L .equal-left x y z (e .0)) (M .equal-left x y z (e .1));
-}
-
 -- ---- lists
 
 module _ {A : Type 0} {compare : A → A → Order} (L : OrderLaws compare) where

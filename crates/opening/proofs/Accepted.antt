@@ -5,7 +5,7 @@ use mathlib.Core.List.{List}
 use Prim.Native.Nat.{ℕ, zero, suc, _+_, _≤_, _<_}
 use native.Mathlib.Omega.{arith}
 use native.Mathlib.Decide.{ℕ-discrete}
-use Rattle.refusals.specs.Refusals.{refusalOf, refusalAt}
+use Rattle.refusals.specs.Refusals.{refusalOf}
 use Rattle.chunk.specs.Chunk.{Parsed, bad, listing, index, isGood}
 use Rattle.header.specs.Header.{headerOf}
 use Rattle.header.specs.declared.Record.{Record}

@@ -1,8 +1,8 @@
 -- Chain and tree as the code checks them are chain and tree as they are defined.
-use mathlib.Core.Path.{_≡_, refl, sym, ap, _∙_}
+use mathlib.Core.Path.{_≡_, sym}
 use mathlib.Core.Bool.{cond}
 use mathlib.Core.List.{List}
-use Prim.Native.Nat.{ℕ, _+_, _-_, _≤_, _<_}
+use Prim.Native.Nat.{ℕ, _-_, _≤_}
 use native.Mathlib.Omega.{arith}
 use Rattle.refusals.specs.Refusals.{refusalOf}
 use Rattle.header.specs.declared.Record.{Record}

@@ -8,7 +8,7 @@ use native.Mathlib.Decide.{ℕ-discrete}
 use lib.ListN.{length}
 use lib.Dec.{eqb}
 use Rattle.fields.specs.Same.{standsAt}
-use Rattle.refusals.specs.Refusals.{noChunk, refusalOf, refusalAt}
+use Rattle.refusals.specs.Refusals.{noChunk, refusalOf}
 use Rattle.refusals.specs.declared.Refusal.{Refusal}
 use Rattle.entries.specs.declared.Limits.{Limits}
 use Rattle.entries.specs.declared.Kind.{Kind}

@@ -1,7 +1,7 @@
 // Opening a book: the head, each chunk, the chain of listing chunks, the tree of index chunks.
 ghost use mathlib.Core.Path.{_≡_};
 ghost use mathlib.Core.Bool.{true};
-ghost use Prim.Native.Nat.{_+_, _<_, _≤_};
+ghost use Prim.Native.Nat.{_<_, _≤_};
 ghost use Rattle.fields.specs.Same.{same};
 ghost use Rattle.refusals.specs.Refusals.{noChunk};
 ghost use Rattle.names.specs.Names.{below};
@@ -14,7 +14,6 @@ ghost use Rattle.opening.specs.Passes.{GoodBook, surveyed, linkOf, First
 use chunk::Chunk;
 use entries::Item;
 use entries::Kind;
-use entries::Limits;
 use header::CheckedHeader;
 use header::Record;
 use refusals::Refusal;

@@ -21,7 +21,6 @@ use Rattle.opening.proofs.Accepted.{head-fits}
 use Rattle.opening.proofs.Refusals.{refusal-told}
 use Rattle.lookup.specs.Reply.{replyTo}
 use Rattle.lookup.proofs.Replies.{replied-search}
-use Rattle.lookup.specs.declared.Reply.the-variants.{Refused}
 use Rattle.scan.specs.Scan.{plainIn, scanned}
 use Rattle.scan.specs.Complete.{ChainComplete, CompleteOnChain}
 

@@ -90,10 +90,6 @@ count-members n (x ∷ xs) d b =
     ∙ ap suc (count-members n xs (d .1) (λ y m. b y (inr m)))
 
 module _ (n : ℕ) (l : List ℕ) (d : Distinct l) where
-  -- a list without repetition of numbers below n is no longer than n
-  pub distinct-bound : ((x : ℕ) → In x l → x < n) → length l ≤ n
-  distinct-bound b = let e = count-members n l d b in let k = count-bound n (λ c. member c l) in omega arith
-
   -- to have all is to be as long
   pub counted : (p : ℕ → Bool) → ((x : ℕ) → In x l → (x < n) × (p x ≡ true)) → everyBelow n (λ c. not (p c) || member c l) ≡ eqb (length l) (countBelow n p)
   counted p b =

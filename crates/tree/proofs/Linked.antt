@@ -21,7 +21,6 @@ use Rattle.tree.specs.Shape.{Shape, isListing, previousOf, nextOf, first
 use Rattle.tree.specs.Chain.{chainFrom, chain, entriesOf, chainEntries, linked, chainOk}
 use Rattle.tree.specs.Exact.{ChainListed}
 use Rattle.tree.proofs.Lists.{first-of, onTest, implied, in-flat, member-in, every-below, each-right, each-apart}
-use Rattle.tree.proofs.Counting.{distinct-bound}
 use Rattle.tree.proofs.Rising.{Before, rising-each, rising-behind, rising-append}
 use Rattle.tree.proofs.Chunks.{listing-chunk}
 
@@ -160,11 +159,6 @@ module _ (D : ℕ → Parsed) (H : Shape) where
     chain-distinct n p c h =
         let es = entriesOf D (chainFrom D n c) in
         rising-distinct (chainFrom D n c) (chain-listing n p c h) (rising-each [] es (chain-rising n p c h))
-
-    -- a chain that is linked over any number of chunks is linked over as many as the directory has
-    pub linked-count : (n p c : ℕ) → linked D H n p c ≡ true → (linked D H (H .count) p c ≡ true) × (chainFrom D (H .count) c ≡ chainFrom D n c)
-    linked-count n p c h =
-        linked-fuel n (H .count) p c h (distinct-bound (H .count) (chainFrom D n c) (chain-distinct n p c h) (λ x m. chain-listing n p c h x m .0))
 
     -- ---- a chain that is accepted
 

@@ -2,7 +2,7 @@
 -- whatever the index chunks are (`plain-exact`), and on a directory that opening accepts what the descent finds (`plain-same`).
 use mathlib.Core.Path.{_≡_, refl, sym, ap, _∙_}
 use mathlib.Core.Logic.{_⊎_, inl, inr, ⊎-elim}
-use mathlib.Core.Bool.{Bool, true, false, cond, false≢true}
+use mathlib.Core.Bool.{Bool, true, cond, false≢true}
 use mathlib.Core.List.{List, [], _∷_, _++_, map, flatMap}
 use Prim.Native.Nat.{ℕ, zero, suc, _+_, _*_, _≤_}
 use native.Mathlib.Omega.{arith}
@@ -90,11 +90,6 @@ entries-short D m (c ∷ cs) f =
     omega arith
 
 -- ---- the search
-
-pub equal-none : (name : List ℕ) (hs : List Held) (w : Bool) → ((h : Held) → In h hs → matches name (h .entry .name) ≡ false) → firstEqual name hs w ≡ cond w absent refused
-unfolding firstEqual
-equal-none name [] w f = refl
-equal-none name (h ∷ hs) w f = rw (f h (inl refl)) (equal-none name hs w (λ k m. f k (inr m)))
 
 -- what it finds is there
 pub equal-found : (name : List ℕ) (hs : List Held) (w : Bool) → (firstEqual name hs w ≡ cond w absent refused)

@@ -1,24 +1,21 @@
 -- Chain, walk and descent one step at a time, in the terms that code has at hand: a return or a turn of a loop has its equation here.
 -- Levels and counts are plain numbers.
-use mathlib.Core.Path.{_≡_, refl, ap, _∙_}
-use mathlib.Core.Bool.{true, false, _&&_}
-use mathlib.Core.List.{List, [], _∷_}
+use mathlib.Core.Path.{_≡_, refl, ap}
+use mathlib.Core.Bool.{true, false}
+use mathlib.Core.List.{List}
 use Prim.Native.Nat.{ℕ, zero, suc, _-_, _<_}
 use native.Mathlib.Omega.{arith}
 use native.Mathlib.Numerals.{sub-one}
 use lib.Dec.{eqb}
 use borrow.Author.Tests.{eq-eqb, ne-eqb}
-use Rattle.fields.specs.Same.{same}
-use Rattle.refusals.specs.Refusals.{noChunk}
-use Rattle.names.specs.Names.{below}
-use Rattle.chunk.specs.Chunk.{Entry, Parsed, entriesIn}
-use Rattle.seek.specs.Seek.{Sought, soughtOf, childOf, entryNamed}
+use Rattle.chunk.specs.Chunk.{Parsed, entriesIn}
+use Rattle.seek.specs.Seek.{soughtOf, childOf}
 use Rattle.seek.specs.declared.Child.the-variants.{Below, Nowhere}
 use Rattle.seek.specs.declared.Hit.{Hit}
 use Rattle.seek.specs.declared.Hit.the-variants.{At, Nothing}
-use Rattle.tree.specs.Shape.{Shape, previousOf, nextOf, firstName, lastName, listingChunk, indexChunk}
-use Rattle.tree.specs.Walk.{TreeProgress, stopped, going, intoChild, visit, walkTree, chainRun}
-use Rattle.tree.specs.Descent.{found, absent, refused, answer, childFor, onward, outcomeFrom, trailFrom}
+use Rattle.tree.specs.Shape.{Shape, nextOf, listingChunk, indexChunk}
+use Rattle.tree.specs.Walk.{stopped, going, intoChild, visit, walkTree, chainRun}
+use Rattle.tree.specs.Descent.{onward}
 use Rattle.tree.proofs.Lists.{onTest}
 
 module _ (D : ℕ → Parsed) (H : Shape) where
@@ -32,24 +29,6 @@ module _ (D : ℕ → Parsed) (H : Shape) where
   unfolding chainRun
   run-other zero p c h = refl
   run-other (suc k) p c h = rw h
-
-  pub run-previous : (k p c : ℕ) → ¬ (previousOf (D c) ≡ p) → chainRun D H k p c ≡ false
-  unfolding chainRun
-  run-previous zero p c h = refl
-  run-previous (suc k) p c h = onTest (listingChunk D H c) (λ t. rw (t, ne-eqb _ p h)) (λ t. rw t)
-
-  module _ (k p c : ℕ) (some : 0 < k) (t : listingChunk D H c ≡ true) (e : previousOf (D c) ≡ p) where
-    before : chainRun D H k p c ≡ chainRun D H (suc (k - 1)) p c
-    before = ap (λ j. chainRun D H j p c) (omega arith)
-
-    pub run-end : nextOf (D c) ≡ noChunk → chainRun D H k p c ≡ (eqb c (H .last) && eqb (k - 1) 0)
-    unfolding chainRun
-    run-end z = before ∙ rw (t, eq-eqb _ p e, eq-eqb _ noChunk z)
-
-    pub run-on : ¬ (nextOf (D c) ≡ noChunk)
-        → chainRun D H k p c ≡ (below (lastName (D c)) (firstName (D (nextOf (D c)))) && chainRun D H (k - 1) c (nextOf (D c)))
-    unfolding chainRun
-    run-on z = before ∙ rw (t, eq-eqb _ p e, ne-eqb _ noChunk z)
 
   -- ---- the walk: chunk c of level l, with e expected and k index chunks to be met
 
@@ -90,54 +69,6 @@ module _ (D : ℕ → Parsed) (H : Shape) where
   index-enter (suc zero) c e k h z t = absurd (omega arith)
   index-enter (suc (suc l)) c e zero h z t = absurd (omega arith)
   index-enter (suc (suc l)) c e (suc k) h z t = rw (sub-one (suc (suc l)), sub-one (suc k), t)
-
--- a turn of that loop
-module _ (D : ℕ → Parsed) (f : ℕ → ℕ → ℕ → TreeProgress) (x : Entry) (xs : List Entry) (e k : ℕ) where
-  pub visit-other : same (x .name) (firstName (D (x .child))) ≡ false → visit (intoChild D f) (x ∷ xs) e k ≡ stopped
-  visit-other h = rw h
-
-  module _ (t : same (x .name) (firstName (D (x .child))) ≡ true) where
-    pub visit-stopped : f (x .child) e k ≡ stopped → visit (intoChild D f) (x ∷ xs) e k ≡ stopped
-    visit-stopped h = rw (t, h)
-
-    pub visit-going : (e′ k′ : ℕ) → f (x .child) e k ≡ going e′ k′ → visit (intoChild D f) (x ∷ xs) e k ≡ visit (intoChild D f) xs e′ k′
-    visit-going e′ k′ h = rw (t, h)
-
--- ---- the descent: chunk c of level l
-
-module _ (D : ℕ → Parsed) (H : Shape) (name : List ℕ) where
-  pub descent-none : (l c : ℕ) → l ≡ 0 → outcomeFrom D H name l c ≡ refused
-  unfolding outcomeFrom
-  descent-none l c z = rw z
-
-  pub descent-leaf-not : (l c : ℕ) → l ≡ 1 → listingChunk D H c ≡ false → outcomeFrom D H name l c ≡ refused
-  unfolding outcomeFrom
-  descent-leaf-not l c z h = rw (z, h)
-
-  pub descent-leaf : (l c : ℕ) → l ≡ 1 → listingChunk D H c ≡ true
-      → (outcomeFrom D H name l c ≡ answer c (entryNamed name (entriesIn (D c)))) × (trailFrom D H name l c ≡ c ∷ [])
-  unfolding outcomeFrom trailFrom
-  descent-leaf l c z h = (rw (z, h), rw z)
-
-  pub descent-index-not : (l c : ℕ) → 1 < l → indexChunk D H c ≡ false → outcomeFrom D H name l c ≡ refused
-  unfolding outcomeFrom
-  descent-index-not zero c z h = absurd (omega arith)
-  descent-index-not (suc zero) c z h = absurd (omega arith)
-  descent-index-not (suc (suc l)) c z h = rw h
-
-  pub descent-absent : (l c : ℕ) → 1 < l → indexChunk D H c ≡ true → childFor name (D c) ≡ Sought.absent
-      → (outcomeFrom D H name l c ≡ absent) × (trailFrom D H name l c ≡ c ∷ [])
-  unfolding outcomeFrom trailFrom
-  descent-absent zero c z h q = absurd (omega arith)
-  descent-absent (suc zero) c z h q = absurd (omega arith)
-  descent-absent (suc (suc l)) c z h q = (rw (h, q), rw (h, q))
-
-  pub descent-child : (l c : ℕ) (x : Entry) → 1 < l → indexChunk D H c ≡ true → childFor name (D c) ≡ Sought.found x
-      → (outcomeFrom D H name l c ≡ outcomeFrom D H name (l - 1) (x .child)) × (trailFrom D H name l c ≡ c ∷ trailFrom D H name (l - 1) (x .child))
-  unfolding outcomeFrom trailFrom
-  descent-child zero c x z h q = absurd (omega arith)
-  descent-child (suc zero) c x z h q = absurd (omega arith)
-  descent-child (suc (suc l)) c x z h q = (rw (h, q, sub-one (suc (suc l))), rw (h, q, sub-one (suc (suc l))))
 
 -- ---- where the search in an index chunk leads
 

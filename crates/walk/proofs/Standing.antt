@@ -28,7 +28,6 @@ use Rattle.walk.specs.Walk.{walkStart, inChunk, afterOf, isOver, comingA
 use Rattle.walk.specs.Exact.{readingOf, Comes, Reads, WalkExact}
 use Rattle.walk.specs.declared.Walk.{Walk}
 use Rattle.walk.specs.declared.Entered.the-variants.{Inside, Over, Barred}
-use Rattle.walk.specs.declared.Coming.the-variants.{Entry as Next}
 use Rattle.walk.proofs.Entering.{enter-inside, enter-over, enter-none, enter-barred, enter-chunk, peek-unfit, peek-entered, peek-here}
 
 module _ (s : List ℕ) (book : Record) where

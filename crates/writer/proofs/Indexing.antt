@@ -11,7 +11,7 @@ use Rattle.fields.proofs.Put.{sets-after}
 use Rattle.entries.specs.declared.Kind.the-variants.{Index}
 use Rattle.entries.specs.Stored.{Stored, storedOf}
 use Rattle.pack.specs.Groups.{fits}
-use Rattle.pack.specs.Levels.{entrySize, level, childrenOf, levelsAbove}
+use Rattle.pack.specs.Levels.{entrySize, childrenOf, levelsAbove}
 use Rattle.pack.specs.Starts.{chunksFrom, Starts, AllStarts}
 use Rattle.pack.proofs.Groups.{groups-some}
 use Rattle.pack.proofs.Above.{upper, above-none, length-children}

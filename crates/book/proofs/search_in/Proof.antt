@@ -1,7 +1,6 @@
 use mathlib.Core.Path.{sym, _∙_}
 use denote.Ref.{now}
 use borrow.Author.Needs.{needs}
-use Rattle.entries.specs.declared.Kind.the-variants.{Listing}
 use Rattle.book.proofs.Checked.{Linked, checked-listing, checked-no-listing}
 use Rattle.book.proofs.Searching.{search-found, search-next, search-barred}
 use Rattle.book.proofs.search_in.Statement.{statement}

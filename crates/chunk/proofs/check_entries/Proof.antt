@@ -20,8 +20,6 @@ use Rattle.chunk.proofs.Quick.{mark-word, mark-right, div-below}
 use Rattle.chunk.proofs.Turn.{outcome, at-start, turn, turn-bad, at-end}
 use Rattle.chunk.proofs.check_entries.Statement.{statement}
 use Rattle.chunk.proofs.check_entries.Tie as tie
-use Rattle.chunk.proofs.check_entries.Reads as reads
-use Rattle.chunk.proofs.check_entries.Lts as lts
 
 -- entry word * n + past is next, and `left` entries are left
 abbrev Inv-loop : tie.InvT-loop

@@ -1,10 +1,6 @@
 use borrow.Author.Needs.{needs}
 use Rattle.chunk.proofs.good_chunk.Statement.{statement}
 use Rattle.chunk.proofs.good_chunk.Tie as tie
-use Rattle.chunk.proofs.good_chunk.Reads as reads
-use Rattle.chunk.proofs.good_chunk.Lts as lts
-use Rattle.chunk.proofs.next_link.Reads as next-link-reads
-use Rattle.chunk.proofs.previous_link.Reads as previous-link-reads
 
 enum-told : tie.Need-enum-told
 enum-told c = search needs

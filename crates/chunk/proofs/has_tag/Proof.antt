@@ -1,9 +1,6 @@
 use borrow.Author.Needs.{needs}
 use Rattle.chunk.proofs.has_tag.Statement.{statement}
 use Rattle.chunk.proofs.has_tag.Tie as tie
-use Rattle.chunk.proofs.has_tag.Reads as reads
-use Rattle.chunk.proofs.has_tag.Lts as lts
-use Rattle.fields.proofs.stands_at.Reads as stands-at-reads
 
 enum-told : tie.Need-enum-told
 enum-told c = search needs

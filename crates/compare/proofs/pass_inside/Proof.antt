@@ -1,6 +1,6 @@
 -- The invariant: the chunks are those of the two walks, and what was passed so far leaves the step as it is.
 use borrow.Author.Needs.{needs}
-use mathlib.Core.Path.{_≡_, ap, subst, _∙_}
+use mathlib.Core.Path.{_≡_, ap, subst}
 use native.Mathlib.Omega.{arith}
 use denote.Ref.{now}
 use Rattle.entries.specs.declared.Place.{Place}

@@ -1,21 +1,15 @@
 use borrow.Author.Needs.{needs}
-use borrow.Author.Tests.{le-ltb, lt-ltb, le-leb, lt-leb}
+use borrow.Author.Tests.{le-ltb, lt-ltb}
 use mathlib.Core.Path.{_≡_, sym, _∙_}
 use native.Mathlib.Omega.{arith}
 use Prim.Native.Nat.{_+_}
-use lib.ListN.{length}
 use denote.Ref.{now}
-use Rattle.entries.specs.Entry.{nameAt, listingAt, indexAt}
+use Rattle.entries.specs.Entry.{nameAt, indexAt}
 use Rattle.encint.specs.Encint.{encintAt}
 use Rattle.encint.specs.declared.Number.the-variants.{Value}
-use Rattle.encint.proofs.Reading.{encint-next}
 use Rattle.entries.proofs.Laws.{name-next}
 use Rattle.entries.proofs.index_at.Statement.{statement}
 use Rattle.entries.proofs.index_at.Tie as tie
-use Rattle.entries.proofs.index_at.Reads as reads
-use Rattle.entries.proofs.index_at.Lts as lts
-use Rattle.entries.proofs.name_at.Reads as name-at-reads
-use Rattle.encint.proofs.read.Reads as read-reads
 
 -- what was read, in terms of the definitions
 name-is : (c : tie.After-n) → nameAt (now (c .before .before .before .before .args .c)) (c .before .before .before .before .args .at) ≡ Value (c .n .given .0 .0) (c .n .given .0 .1 .0)

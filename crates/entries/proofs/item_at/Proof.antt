@@ -2,10 +2,6 @@ use borrow.Author.Needs.{needs}
 use Rattle.entries.specs.Entry.{itemAt}
 use Rattle.entries.proofs.item_at.Statement.{statement}
 use Rattle.entries.proofs.item_at.Tie as tie
-use Rattle.entries.proofs.item_at.Reads as reads
-use Rattle.entries.proofs.item_at.Lts as lts
-use Rattle.entries.proofs.index_at.Reads as index-at-reads
-use Rattle.entries.proofs.listing_at.Reads as listing-at-reads
 
 enum-told : tie.Need-enum-told
 enum-told c = search needs

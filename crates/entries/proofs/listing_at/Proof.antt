@@ -4,7 +4,6 @@ use mathlib.Core.Path.{_≡_, sym, _∙_}
 use mathlib.Core.Bool.{_&&_, _||_}
 use native.Mathlib.Omega.{arith}
 use Prim.Native.Nat.{_+_}
-use lib.ListN.{length}
 use lib.Dec.{leb, ltb}
 use denote.Ref.{now}
 use mathlib.Core.Bool.{cond}
@@ -12,14 +11,9 @@ use Rattle.entries.specs.Entry.{nameAt, listingAt}
 use Rattle.encint.specs.Encint.{encintAt}
 use Rattle.encint.specs.declared.Number.the-variants.{Value}
 use Rattle.entries.specs.declared.Item.the-variants.{Good, Bad}
-use Rattle.encint.proofs.Reading.{encint-next}
 use Rattle.entries.proofs.Laws.{name-next}
 use Rattle.entries.proofs.listing_at.Statement.{statement}
 use Rattle.entries.proofs.listing_at.Tie as tie
-use Rattle.entries.proofs.listing_at.Reads as reads
-use Rattle.entries.proofs.listing_at.Lts as lts
-use Rattle.entries.proofs.name_at.Reads as name-at-reads
-use Rattle.encint.proofs.read.Reads as read-reads
 
 -- what was read, in terms of the definitions
 name-is : (c : tie.After-n) → nameAt (now (c .before .before .before .before .args .c)) (c .before .before .before .before .args .at) ≡ Value (c .n .given .0 .0) (c .n .given .0 .1 .0)

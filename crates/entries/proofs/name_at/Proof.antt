@@ -1,18 +1,14 @@
 use borrow.Author.Needs.{needs}
 use borrow.Author.Tests.{le-ltb, lt-ltb, le-leb, lt-leb}
-use mathlib.Core.Path.{_≡_, sym, _∙_}
+use mathlib.Core.Path.{sym, _∙_}
 use native.Mathlib.Omega.{arith}
 use Prim.Native.Nat.{_+_}
 use lib.ListN.{length}
 use denote.Ref.{now}
 use Rattle.entries.specs.Entry.{nameAt}
 use Rattle.encint.proofs.Reading.{encint-next}
-use Rattle.entries.proofs.Laws.{name-next}
 use Rattle.entries.proofs.name_at.Statement.{statement}
 use Rattle.entries.proofs.name_at.Tie as tie
-use Rattle.entries.proofs.name_at.Reads as reads
-use Rattle.entries.proofs.name_at.Lts as lts
-use Rattle.encint.proofs.read.Reads as read-reads
 
 read-requires : tie.Need-read-requires
 read-requires c κs = search needs

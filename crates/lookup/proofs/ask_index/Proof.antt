@@ -2,7 +2,6 @@ use mathlib.Core.Path.{_≡_, sym, _∙_}
 use mathlib.Core.Bool.{true}
 use denote.Ref.{now}
 use borrow.Author.Needs.{needs}
-use Rattle.entries.specs.declared.Kind.the-variants.{Index}
 use Rattle.tree.specs.Shape.{indexChunk}
 use Rattle.book.specs.Book.{directoryOf, shapeOf}
 use Rattle.book.proofs.Checked.{checked-index, checked-no-index}

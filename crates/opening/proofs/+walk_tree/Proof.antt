@@ -1,17 +1,15 @@
 use borrow.Author.Needs.{needs}
-use borrow.Author.Tests.{not-true, not-false}
 use Prim.Native.Nat.{ℕ, _-_, _<_}
-use mathlib.Core.Path.{_≡_, refl, sym, ap, subst, _∙_, subst₂}
-use mathlib.Core.List.{List, []}
+use mathlib.Core.Path.{_≡_, sym, ap, subst, _∙_, subst₂}
+use mathlib.Core.List.{List}
 use native.Mathlib.Omega.{arith}
 use denote.Ref.{now}
 use Rattle.fields.proofs.Tests.{held, failed}
 use Rattle.chunk.specs.Chunk.{Entry, entryCount, entriesIn}
-use Rattle.tree.specs.Walk.{going, visit, intoChild, walkTree}
+use Rattle.tree.specs.Walk.{visit, intoChild, walkTree}
 use Rattle.tree.proofs.Steps.{walk-none, leaf-other, index-none, index-not, index-enter}
 use Rattle.book.specs.Book.{chunkBytes, directoryOf, shapeOf}
-use Rattle.opening.specs.Passes.{progressOf, namedChild}
-use Rattle.opening.specs.declared.NamedChild.the-variants.{Named, Other}
+use Rattle.opening.specs.Passes.{progressOf}
 use Rattle.tree.proofs.Chunks.{index-chunk}
 use Rattle.opening.proofs.Visits.{Left, Visited, all-left, none-left, visited, stopped-is, going-is, leaf-is}
 use borrow.Fn.Kinds.{In}

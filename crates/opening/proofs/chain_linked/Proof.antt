@@ -8,7 +8,6 @@ use Rattle.refusals.specs.Refusals.{noChunk}
 use Rattle.tree.specs.Walk.{chainRun}
 use Rattle.tree.proofs.Steps.{run-none}
 use Rattle.book.specs.Book.{directoryOf, shapeOf}
-use Rattle.opening.specs.declared.Link.{Link}
 use Rattle.opening.proofs.Chains.{runLink, run-link}
 use Rattle.opening.proofs.chain_linked.Statement.{statement}
 use Rattle.opening.proofs.chain_linked.Tie as tie

@@ -1,5 +1,4 @@
 use borrow.Author.Needs.{needs}
-use mathlib.Core.Path.{_≡_}
 use denote.Ref.{now}
 use Rattle.opening.proofs.Firsts.{first-of-good}
 use Rattle.opening.proofs.first_of.Statement.{statement}

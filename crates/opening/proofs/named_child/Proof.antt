@@ -1,5 +1,5 @@
 use borrow.Author.Needs.{needs}
-use mathlib.Core.Path.{_≡_, sym, ap, _∙_}
+use mathlib.Core.Path.{_≡_, sym, _∙_}
 use native.Mathlib.Nat.{add-sub-cancel-left}
 use native.Mathlib.Omega.{arith}
 use Prim.Native.Nat.{_+_, _≤_, _<_}
@@ -7,8 +7,7 @@ use lib.ListN.{length}
 use denote.Ref.{now}
 use Rattle.fields.specs.Same.{same}
 use Rattle.entries.specs.Entry.{itemAt, nameOf}
-use Rattle.entries.specs.declared.Item.{Item}
-use Rattle.entries.specs.declared.Item.the-variants.{Good, Bad}
+use Rattle.entries.specs.declared.Item.the-variants.{Good}
 use Rattle.entries.proofs.Laws.{item-inside, index-apart}
 use Rattle.entries.specs.declared.Kind.the-variants.{Index}
 use Rattle.tree.specs.Shape.{firstName}

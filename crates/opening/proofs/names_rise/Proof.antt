@@ -1,5 +1,5 @@
 use borrow.Author.Needs.{needs}
-use mathlib.Core.Path.{_≡_, sym, ap, _∙_}
+use mathlib.Core.Path.{_≡_, sym, _∙_}
 use native.Mathlib.Nat.{add-sub-cancel-left}
 use native.Mathlib.Omega.{arith}
 use Prim.Native.Nat.{_+_, _≤_}
@@ -7,8 +7,6 @@ use lib.ListN.{length}
 use denote.Ref.{now}
 use Rattle.entries.specs.declared.Kind.the-variants.{Listing}
 use Rattle.seek.specs.Seek.{lastIn}
-use Rattle.seek.specs.declared.Hit.{Hit}
-use Rattle.seek.specs.declared.Hit.the-variants.{At, Nothing}
 use Rattle.tree.specs.Shape.{lastName}
 use Rattle.book.specs.Book.{limitsOf, chunkBytes, directoryOf, shapeOf}
 use Rattle.opening.proofs.Firsts.{Hits, last-found, last-hit}

@@ -1,10 +1,9 @@
 use borrow.Author.Needs.{needs}
-use mathlib.Core.Path.{_≡_, sym, ap, _∙_}
-use mathlib.Core.Bool.{true, false}
+use mathlib.Core.Path.{_≡_, ap}
 use native.Mathlib.Omega.{arith}
 use denote.Ref.{now}
 use Rattle.fields.proofs.Tests.{held, failed}
-use Rattle.tree.specs.Walk.{chainRun, chainRunOk, treeWalkOk}
+use Rattle.tree.specs.Walk.{chainRunOk, treeWalkOk}
 use Rattle.book.specs.Book.{directoryOf, shapeOf}
 use Rattle.opening.specs.declared.Opened.the-variants.{Refused}
 use Rattle.opening.proofs.Links.{index-count, listing-count, linked-run}

@@ -1,10 +1,10 @@
 use borrow.Author.Needs.{needs}
 use borrow.Author.Tests.{eq-eqb, ne-eqb}
-use mathlib.Core.Path.{_≡_, sym, ap, _∙_}
+use mathlib.Core.Path.{_≡_, sym, _∙_}
 use denote.Ref.{now}
 use Rattle.refusals.specs.Refusals.{noChunk}
 use Rattle.tree.specs.Tree.{top}
-use Rattle.tree.specs.Walk.{arrived, walkTree}
+use Rattle.tree.specs.Walk.{walkTree}
 use Rattle.book.specs.Book.{directoryOf, shapeOf}
 use Rattle.opening.specs.Passes.{progressOf}
 use Rattle.opening.proofs.Visits.{stopped-is, going-is}

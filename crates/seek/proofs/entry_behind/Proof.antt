@@ -2,8 +2,6 @@ use borrow.Author.Needs.{needs}
 use mathlib.Core.Path.{_≡_, refl, sym, _∙_}
 use native.Mathlib.Omega.{arith}
 use denote.Ref.{now}
-use Rattle.entries.specs.Entry.{itemAt}
-use Rattle.entries.specs.declared.Item.the-variants.{Good}
 use Rattle.seek.specs.Seek.{afterAt}
 use Rattle.seek.proofs.Steps.{after-bad, after-on, after-here}
 use Rattle.seek.proofs.entry_behind.Statement.{statement}
