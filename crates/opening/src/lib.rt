@@ -107,18 +107,26 @@ fn first_of(file: &[u8], book: Record, c: u64) -> Hit
     seek::first_entry(bytes, book::limits(file, book), chunk::kind_of(bytes))
 }
 
+// The first name of a chunk of a good book, in its bytes.
+fn first_name(file: &[u8], book: Record, c: u64) -> &[u8]
+    requires { ⌜ (GoodBook (now file) book) × (c < book .count) ⌝ }
+    ensures { λ r. ⌜ now r ≡ firstName (directoryOf (now (file .entry)) book c) ⌝ }
+{
+    let bytes = book::chunk_bytes(file, book, c);
+    let Hit::At(e) = first_of(file, book, c) else {
+        return &file[0..0];
+    };
+    let start = e.start;
+    let len = e.len;
+    &bytes[start..start + len]
+}
+
 // Whether a name is, byte for byte, the first name of chunk c.
 fn is_named(file: &[u8], book: Record, c: u64, name: &[u8]) -> bool
     requires { ⌜ (GoodBook (now file) book) × (c < book .count) ⌝ }
     ensures { λ r. ⌜ r ≡ same (now (name .entry)) (firstName (directoryOf (now (file .entry)) book c)) ⌝ }
 {
-    let bytes = book::chunk_bytes(file, book, c);
-    let Hit::At(e) = first_of(file, book, c) else {
-        return false;
-    };
-    let start = e.start;
-    let len = e.len;
-    fields::equal(name, &bytes[start..start + len])
+    fields::equal(name, first_name(file, book, c))
 }
 
 // Whether a name is below the first name of chunk c.
@@ -126,13 +134,7 @@ fn is_before(file: &[u8], book: Record, c: u64, name: &[u8]) -> bool
     requires { ⌜ (GoodBook (now file) book) × (c < book .count) ⌝ }
     ensures { λ r. ⌜ r ≡ below (now (name .entry)) (firstName (directoryOf (now (file .entry)) book c)) ⌝ }
 {
-    let bytes = book::chunk_bytes(file, book, c);
-    let Hit::At(e) = first_of(file, book, c) else {
-        return false;
-    };
-    let start = e.start;
-    let len = e.len;
-    names::is_below(name, &bytes[start..start + len])
+    names::is_below(name, first_name(file, book, c))
 }
 
 // Whether the last name of listing chunk c is below the first name of chunk d.

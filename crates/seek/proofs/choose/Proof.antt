@@ -11,7 +11,7 @@ use Rattle.names.specs.Names.{compared}
 use Rattle.encint.specs.Encint.{encintAt}
 use Rattle.encint.specs.declared.Number.the-variants.{Value}
 use Rattle.entries.specs.Entry.{nameAt, indexAt, itemAt, withItem}
-use Rattle.entries.specs.declared.Item.the-variants.{Good}
+use Rattle.entries.specs.declared.Item.the-variants.{Good, Bad}
 use Rattle.entries.proofs.Laws.{name-next, index-broken, index-wide, index-whole}
 use Rattle.entries.specs.declared.Kind.the-variants.{Index}
 use Rattle.chunk.specs.Chunk.{countPlace}
@@ -95,6 +95,22 @@ read-is c =
     let l = n .before .before .before .before in
     let a = l .before .before .before .before .args in
     index-whole (a .limits) (now (a .c)) (l .loop .at) _ _ (name-is n) _ _ (number-is d) (c .if1 .left)
+
+-- an entry whose name is below, with no good child behind it, ends the search with what was best before
+barred-is : (r : tie.After-read Inv-loop μ-loop) (x : CountedChild) → let t = r .before .before .before .before .before .before .before .before .before in
+    let l = t .before in let a = l .before .before .before .before .args in let g = l .before .group-for .result in
+    x ≡ record { child = l .loop .best; count = g .count + (g .size - (l .loop .left - 1)) } → itemAt (a .limits) Index (now (a .c)) (l .loop .at) ≡ Bad
+    → x ≡ childFrom (record { hit = chooseIn (a .limits) (now (a .c)) (compared (now (a .name))); count = costIn (a .limits) Index (now (a .c)) (compared (now (a .name))) })
+barred-is r x e g =
+    let o = r .before .before .before in
+    let n = o .before .before .before in
+    let t = n .before .before .before in
+    let l = t .before in
+    let a = l .before .before .before .before .args in
+    let i = l .loop .inv in
+    ended _ _ _ _ _ _ e (spent-told (l .before) (l .loop .left - 1)) (i .1)
+    (sym (choose-barred (a .limits) (now (a .c)) (compared (now (a .name))) (i .0) (spentIn (a .limits) Index (now (a .c)) (compared (now (a .name))) (l .loop .left)) (l .loop .left) (l .loop .at) _ _ (t .loop-test .taken) (name-is n) _
+    (spent-next (a .limits) Index (now (a .c)) (compared (now (a .name))) (l .loop .left) (t .loop-test .taken) (i .3)) (sym (compared-is o) ∙ r .before .enum-told4 .given .1) g) ∙ i .2)
 
 group-for-requires : tie.Need-group-for-requires Inv-loop μ-loop
 group-for-requires c κs = search needs
@@ -214,16 +230,11 @@ returns-4 : tie.Need-returns-4 Inv-loop μ-loop
 returns-4 c =
     let e = c .before in
     let r = e .before .before in
-    let o = r .before .before .before in
-    let n = o .before .before .before in
-    let t = n .before .before .before in
-    let l = t .before in
+    let n = r .before .before .before .before .before .before in
+    let l = n .before .before .before .before in
     let a = l .before .before .before .before .args in
-    let i = l .loop .inv in
-    ended _ _ _ _ _ _ (c .child-of4 .ensures) (spent-told (l .before) (l .loop .left - 1)) (i .1)
-    (sym (choose-barred (a .limits) (now (a .c)) (compared (now (a .name))) (i .0) (spentIn (a .limits) Index (now (a .c)) (compared (now (a .name))) (l .loop .left)) (l .loop .left) (l .loop .at) _ _ (t .loop-test .taken) (name-is n) _
-    (spent-next (a .limits) Index (now (a .c)) (compared (now (a .name))) (l .loop .left) (t .loop-test .taken) (i .3)) (sym (compared-is o) ∙ r .before .enum-told4 .given .1)
-    (index-broken (a .limits) (now (a .c)) (l .loop .at) _ _ (name-is n) (sym (r .read .ensures .0) ∙ e .enum-told5 .given .1))) ∙ i .2)
+    barred-is r _ (c .child-of4 .ensures)
+    (index-broken (a .limits) (now (a .c)) (l .loop .at) _ _ (name-is n) (sym (r .read .ensures .0) ∙ e .enum-told5 .given .1))
 
 child-of-requires-5 : tie.Need-child-of-requires-5 Inv-loop μ-loop
 child-of-requires-5 c κs = room (c .before .before .before .before .before .before .before .before .before .before .before .before .before .before .before) _ (omega arith)
@@ -233,16 +244,10 @@ returns-5 c =
     let w = c .before in
     let d = w .before .before .before in
     let r = d .before .before in
-    let o = r .before .before .before in
-    let n = o .before .before .before in
-    let t = n .before .before .before in
-    let l = t .before in
+    let n = r .before .before .before .before .before .before in
+    let l = n .before .before .before .before in
     let a = l .before .before .before .before .args in
-    let i = l .loop .inv in
-    ended _ _ _ _ _ _ (c .child-of5 .ensures) (spent-told (l .before) (l .loop .left - 1)) (i .1)
-    (sym (choose-barred (a .limits) (now (a .c)) (compared (now (a .name))) (i .0) (spentIn (a .limits) Index (now (a .c)) (compared (now (a .name))) (l .loop .left)) (l .loop .left) (l .loop .at) _ _ (t .loop-test .taken) (name-is n) _
-    (spent-next (a .limits) Index (now (a .c)) (compared (now (a .name))) (l .loop .left) (t .loop-test .taken) (i .3)) (sym (compared-is o) ∙ r .before .enum-told4 .given .1)
-    (index-wide (a .limits) (now (a .c)) (l .loop .at) _ _ (name-is n) _ _ (number-is d) (w .if1 .taken))) ∙ i .2)
+    barred-is r _ (c .child-of5 .ensures) (index-wide (a .limits) (now (a .c)) (l .loop .at) _ _ (name-is n) _ _ (number-is d) (w .if1 .taken))
 
 loop-less : tie.Need-loop-less Inv-loop μ-loop
 loop-less c = omega arith

@@ -1,25 +1,40 @@
 use borrow.Author.Needs.{needs}
 use mathlib.Core.Path.{_≡_, refl, sym, ap, _∙_}
-use Prim.Native.Nat.{ℕ, _+_, _-_, _≤_}
+use mathlib.Core.Bool.{Bool, true, false}
+use Prim.Native.Nat.{ℕ, _+_, _-_, _≤_, _<_}
 use native.Mathlib.Omega.{arith}
 use denote.Ref.{now}
 use Rattle.names.specs.Order.{isLess}
 use Rattle.names.specs.Names.{compared}
-use Rattle.seek.specs.Seek.{groupAbove, halved}
+use Rattle.seek.specs.Seek.{groupAbove, middle, halved}
 use Rattle.seek.specs.Count.{halvings}
 use Rattle.seek.proofs.Halving.{halved-one, halved-lower, halved-upper, halvings-one, halvings-lower, halvings-upper, halvings-fuel}
 use Rattle.seek.proofs.group_of.Statement.{statement}
 use Rattle.seek.proofs.group_of.Tie as tie
 
--- the groups lo to hi are left, and halving them i times more is enough
-abbrev Inv-loop : tie.InvT-loop
-Inv-loop c kind name last lo₀ hi₀ turns₀ lo hi turns =
+-- groups lo to hi are left after some turns, and halving them i times more is enough
+abbrev Left : (ℕ → Bool) → ℕ → ℕ → ℕ → ℕ → Type 0
+Left above last lo hi turns =
     (i : ℕ)
     × (hi - lo ≤ i)
     × (lo ≤ hi)
     × (hi ≤ last)
-    × (halved (groupAbove kind c (compared name)) i lo hi ≡ halved (groupAbove kind c (compared name)) last 0 last)
-    × (turns + halvings (groupAbove kind c (compared name)) i lo hi ≡ halvings (groupAbove kind c (compared name)) last 0 last)
+    × (halved above i lo hi ≡ halved above last 0 last)
+    × (turns + halvings above i lo hi ≡ halvings above last 0 last)
+
+module _ (above : ℕ → Bool) (last lo hi turns : ℕ) (h : lo < hi) (l : Left above last lo hi turns) where
+  left-lower : above (middle lo hi) ≡ true → Left above last lo (middle lo hi - 1) (turns + 1)
+  left-lower m =
+      let q = halvings-lower above (l .0) lo hi h (l .1) m in
+      (l .0 - 1, omega arith, omega arith, omega arith, sym (halved-lower above (l .0) lo hi h (l .1) m) ∙ l .4, omega (arith, q))
+
+  left-upper : above (middle lo hi) ≡ false → Left above last (middle lo hi) hi (turns + 1)
+  left-upper m =
+      let q = halvings-upper above (l .0) lo hi h (l .1) m in
+      (l .0 - 1, omega arith, omega arith, omega arith, sym (halved-upper above (l .0) lo hi h (l .1) m) ∙ l .4, omega (arith, q))
+
+abbrev Inv-loop : tie.InvT-loop
+Inv-loop c kind name last lo₀ hi₀ turns₀ lo hi turns = Left (groupAbove kind c (compared name)) last lo hi turns
 
 abbrev μ-loop : tie.MeasureT-loop
 μ-loop c kind name last lo₀ hi₀ turns₀ lo hi turns = hi - lo
@@ -60,16 +75,8 @@ loop-again c =
     let t = c .before .before .before in
     let l = t .before .loop in
     let a = t .before .before .before .before .args in
-    let above = groupAbove (a .kind) (now (a .c)) (compared (now (a .name))) in
-    let m = sym (c .before .before .stands-to .ensures) ∙ ap isLess (c .enum-told .given .1) in
-    let q = halvings-lower above (l .inv .0) (l .lo) (l .hi) (t .loop-test .taken) (l .inv .1) m in (
-      l .inv .0 - 1,
-      omega arith,
-      omega arith,
-      omega arith,
-      sym (halved-lower above (l .inv .0) (l .lo) (l .hi) (t .loop-test .taken) (l .inv .1) m) ∙ l .inv .4,
-      omega (arith, q),
-    )
+    left-lower (groupAbove (a .kind) (now (a .c)) (compared (now (a .name)))) (a .last) (l .lo) (l .hi) (l .turns) (t .loop-test .taken) (l .inv)
+    (sym (c .before .before .stands-to .ensures) ∙ ap isLess (c .enum-told .given .1))
 
 enum-told-2 : tie.Need-enum-told-2 Inv-loop μ-loop
 enum-told-2 c = search needs
@@ -82,16 +89,8 @@ loop-again-2 c =
     let t = c .before .before .before in
     let l = t .before .loop in
     let a = t .before .before .before .before .args in
-    let above = groupAbove (a .kind) (now (a .c)) (compared (now (a .name))) in
-    let m = sym (c .before .before .stands-to .ensures) ∙ ap isLess (c .enum-told2 .given .1) in
-    let q = halvings-upper above (l .inv .0) (l .lo) (l .hi) (t .loop-test .taken) (l .inv .1) m in (
-      l .inv .0 - 1,
-      omega arith,
-      omega arith,
-      omega arith,
-      sym (halved-upper above (l .inv .0) (l .lo) (l .hi) (t .loop-test .taken) (l .inv .1) m) ∙ l .inv .4,
-      omega (arith, q),
-    )
+    left-upper (groupAbove (a .kind) (now (a .c)) (compared (now (a .name)))) (a .last) (l .lo) (l .hi) (l .turns) (t .loop-test .taken) (l .inv)
+    (sym (c .before .before .stands-to .ensures) ∙ ap isLess (c .enum-told2 .given .1))
 
 enum-told-3 : tie.Need-enum-told-3 Inv-loop μ-loop
 enum-told-3 c = search needs
@@ -104,16 +103,8 @@ loop-again-3 c =
     let t = c .before .before .before in
     let l = t .before .loop in
     let a = t .before .before .before .before .args in
-    let above = groupAbove (a .kind) (now (a .c)) (compared (now (a .name))) in
-    let m = sym (c .before .before .stands-to .ensures) ∙ ap isLess (c .enum-told3 .given .1) in
-    let q = halvings-upper above (l .inv .0) (l .lo) (l .hi) (t .loop-test .taken) (l .inv .1) m in (
-      l .inv .0 - 1,
-      omega arith,
-      omega arith,
-      omega arith,
-      sym (halved-upper above (l .inv .0) (l .lo) (l .hi) (t .loop-test .taken) (l .inv .1) m) ∙ l .inv .4,
-      omega (arith, q),
-    )
+    left-upper (groupAbove (a .kind) (now (a .c)) (compared (now (a .name)))) (a .last) (l .lo) (l .hi) (l .turns) (t .loop-test .taken) (l .inv)
+    (sym (c .before .before .stands-to .ensures) ∙ ap isLess (c .enum-told3 .given .1))
 
 returns : tie.Need-returns Inv-loop μ-loop
 returns c =
