@@ -1,4 +1,3 @@
--- `directory_header::bounds_right` meets its contract.
 use borrow.Author.Needs.{needs}
 use borrow.Author.Tests.{eq-eqb, ne-eqb, le-leb, lt-leb}
 use Rattle.fields.proofs.Tests.{held, failed}

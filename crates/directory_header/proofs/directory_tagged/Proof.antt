@@ -1,4 +1,3 @@
--- `directory_header::directory_tagged` meets its contract.
 use borrow.Author.Needs.{needs}
 use borrow.Author.Tests.{eq-eqb, ne-eqb}
 use Rattle.fields.proofs.Tests.{held, failed}

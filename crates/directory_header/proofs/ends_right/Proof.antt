@@ -1,4 +1,3 @@
--- `directory_header::ends_right` meets its contract.
 use borrow.Author.Tests.{lt-ltb, le-ltb}
 use Rattle.directory_header.specs.DirectoryHeader.{endsRight}
 use Rattle.directory_header.proofs.ends_right.Statement.{statement}

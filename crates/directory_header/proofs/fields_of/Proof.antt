@@ -1,4 +1,3 @@
--- `directory_header::fields_of` meets its contract.
 use borrow.Author.Needs.{needs}
 use Rattle.directory_header.proofs.fields_of.Statement.{statement}
 use Rattle.directory_header.proofs.fields_of.Tie as tie

@@ -1,4 +1,3 @@
--- `directory_header::is_within` meets its contract.
 use borrow.Author.Tests.{le-leb, lt-leb}
 use Rattle.directory_header.proofs.is_within.Statement.{statement}
 use Rattle.directory_header.proofs.is_within.Tie as tie

@@ -1,12 +1,11 @@
 use borrow.Author.Needs.{needs}
 use borrow.Author.Tests.{le-ltb, lt-ltb, le-leb, lt-leb}
 use mathlib.Core.Path.{_≡_, sym, _∙_}
-use mathlib.Core.Bool.{_&&_, _||_}
+use mathlib.Core.Bool.{_&&_, _||_, cond}
 use native.Mathlib.Omega.{arith}
 use Prim.Native.Nat.{_+_}
 use lib.Dec.{leb, ltb}
 use denote.Ref.{now}
-use mathlib.Core.Bool.{cond}
 use Rattle.entries.specs.Entry.{nameAt, listingAt}
 use Rattle.encint.specs.Encint.{encintAt}
 use Rattle.encint.specs.declared.Number.the-variants.{Value}

@@ -1,4 +1,3 @@
--- `fields::put_number` meets its contract.
 use mathlib.Core.Path.{sym, _∙_}
 use native.Mathlib.Omega.{arith}
 use Rattle.fields.specs.Le.{bytes}

@@ -1,4 +1,3 @@
--- `fields::stands_at` meets its contract.
 use mathlib.Core.Path.{sym}
 use native.Mathlib.Nat.{add-sub-cancel-left}
 use native.Mathlib.Omega.{arith}

@@ -1,4 +1,3 @@
--- `file_header::are_apart` meets its contract.
 use borrow.Author.Needs.{needs}
 use mathlib.Core.Path.{sym, _∙_}
 use Rattle.file_header.proofs.are_apart.Statement.{statement}

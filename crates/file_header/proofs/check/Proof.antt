@@ -1,4 +1,3 @@
--- `file_header::check` meets its contract.
 use borrow.Author.Needs.{needs}
 use borrow.Author.Tests.{le-leb, lt-leb}
 use mathlib.Core.Path.{_≡_, sym, ap, _∙_}

@@ -1,4 +1,3 @@
--- `file_header::ends_by` meets its contract.
 use mathlib.Core.Path.{sym}
 use borrow.Author.Tests.{lt-leb}
 use Prim.Native.Nat.{_+_, _-_}

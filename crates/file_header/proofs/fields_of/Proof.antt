@@ -1,4 +1,3 @@
--- `file_header::fields_of` meets its contract.
 use borrow.Author.Needs.{needs}
 use Rattle.file_header.proofs.fields_of.Statement.{statement}
 use Rattle.file_header.proofs.fields_of.Tie as tie

@@ -1,4 +1,3 @@
--- `file_header::file_tagged` meets its contract.
 use borrow.Author.Needs.{needs}
 use Rattle.fields.proofs.Tests.{held, failed}
 use Rattle.file_header.specs.FileHeader.{fileTagged}

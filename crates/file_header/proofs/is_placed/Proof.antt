@@ -1,4 +1,3 @@
--- `file_header::is_placed` meets its contract.
 use borrow.Author.Needs.{needs}
 use borrow.Author.Tests.{le-leb, lt-leb}
 use Rattle.file_header.proofs.is_placed.Statement.{statement}

@@ -1,4 +1,3 @@
--- `file_header::sections_right` meets its contract.
 use borrow.Author.Needs.{needs}
 use Rattle.fields.proofs.Tests.{held, failed}
 use native.Mathlib.Omega.{arith}

@@ -1,4 +1,3 @@
--- `layout::previous` meets its contract.
 use borrow.Author.Needs.{needs}
 use borrow.Author.Tests.{eq-eqb, ne-eqb}
 use Rattle.layout.specs.Layout.{newPrevious}

@@ -1,4 +1,3 @@
--- `refusals::refuse` meets its contract.
 use borrow.Author.Needs.{needs}
 use Rattle.refusals.proofs.refuse.Statement.{statement}
 use Rattle.refusals.proofs.refuse.Tie as tie

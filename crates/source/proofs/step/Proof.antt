@@ -1,4 +1,3 @@
--- `source::step` meets its contract.
 use mathlib.Core.Path.{_∙_}
 use native.Mathlib.Omega.{arith}
 use Rattle.source.specs.Source.{itemFrom}

@@ -1,4 +1,3 @@
--- `head::given_at` meets its contract.
 use mathlib.Core.Path.{_∙_}
 use native.Mathlib.Omega.{arith}
 use Rattle.source.proofs.Rows.{taken-spent, taken-some}

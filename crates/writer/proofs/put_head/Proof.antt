@@ -1,4 +1,3 @@
--- `head::put_head` meets its contract.
 use native.Mathlib.Omega.{arith}
 use Rattle.writer.proofs.Answers.{leaves-are, ready-level, ready-index, head-written}
 use borrow.Author.Needs.{needs}

@@ -1,4 +1,3 @@
--- `head::put_index` meets its contract.
 use Prim.Native.Nat.{_-_}
 use native.Mathlib.Omega.{arith}
 use Rattle.entries.specs.declared.Kind.the-variants.{Listing}

@@ -1,4 +1,3 @@
--- `head::rises` meets its contract.
 use native.Mathlib.Nat.{add-sub-cancel-left}
 use borrow.Author.Needs.{needs}
 use Rattle.writer.proofs.rises.Statement.{statement}
