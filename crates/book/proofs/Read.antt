@@ -18,10 +18,10 @@ use Rattle.entries.proofs.Padded.{entry-stands}
 use Rattle.entries.specs.declared.Kind.the-variants.{Listing}
 use Rattle.chunk.specs.Chunk.{Entry, all, entryOf, entriesAt, entryCount, tailLength, entriesIn, firstPlace}
 use Rattle.chunk.proofs.Accepted.{Accepted, chunk-accepted, entries-more, entries-count}
-use Rattle.seek.specs.Seek.{absent, found, nth, soughtOf, nthIn}
-use Rattle.seek.specs.declared.Hit.the-variants.{At, Nothing}
-use Rattle.seek.proofs.Steps.{nth-read}
-use Rattle.seek.proofs.Good.{nth-good}
+use Rattle.quickref.specs.Quickref.{absent, found, nth, soughtOf, nthIn}
+use Rattle.quickref.specs.declared.Hit.the-variants.{At, Nothing}
+use Rattle.quickref.proofs.Steps.{nth-read}
+use Rattle.quickref.proofs.Good.{nth-good}
 use Rattle.header.specs.declared.Record.{Record}
 use Rattle.tree.specs.Shape.{isListing}
 use Rattle.book.specs.Book.{limitsOf, chunkPlace, chunkBytes, directoryOf, reportOf, reportAt, ownOf, ownAt, OwnBytes}

@@ -17,10 +17,11 @@ use Rattle.entries.specs.declared.Place.{Place}
 use Rattle.entries.specs.declared.Kind.{Kind}
 use Rattle.entries.specs.declared.Kind.the-variants.{Listing, Index}
 use Rattle.chunk.specs.Chunk.{Entry, entryOf, entriesIn, countPlace}
-use Rattle.seek.specs.Seek.{Sought, entryNamed, soughtOf, findIn, chooseIn}
+use Rattle.quickref.specs.Quickref.{Sought, soughtOf}
+use Rattle.quickref.specs.declared.Hit.{Hit}
+use Rattle.quickref.specs.declared.Hit.the-variants.{At, Nothing}
+use Rattle.seek.specs.Seek.{entryNamed, findIn, chooseIn}
 use Rattle.seek.specs.Count.{costIn}
-use Rattle.seek.specs.declared.Hit.{Hit}
-use Rattle.seek.specs.declared.Hit.the-variants.{At, Nothing}
 use Rattle.seek.proofs.Good.{find-good, choose-good}
 use Rattle.seek.proofs.Counts.{cost-good, cost-small}
 use Rattle.seek.proofs.Steps.{find-read, find-inside}

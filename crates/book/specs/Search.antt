@@ -9,11 +9,12 @@ use Rattle.fields.specs.Part.{part}
 use Rattle.names.specs.Names.{compared, matches}
 use Rattle.entries.specs.declared.Kind.the-variants.{Listing, Index}
 use Rattle.chunk.specs.Chunk.{spacingOf, entriesIn}
-use Rattle.seek.specs.Seek.{Sought, entryNamed, findIn, chooseIn, childOf}
+use Rattle.quickref.specs.Quickref.{Sought}
+use Rattle.quickref.specs.declared.Hit.{Hit}
+use Rattle.quickref.specs.declared.Hit.the-variants.{At}
+use Rattle.seek.specs.Seek.{entryNamed, findIn, chooseIn, childOf}
 use Rattle.seek.specs.Count.{comparisons, costIn}
 use Rattle.seek.specs.declared.CountedChild.{CountedChild}
-use Rattle.seek.specs.declared.Hit.{Hit}
-use Rattle.seek.specs.declared.Hit.the-variants.{At}
 use Rattle.header.specs.declared.Record.{Record}
 use Rattle.tree.specs.Shape.{nextOf, listingChunk}
 use Rattle.book.specs.Book.{limitsOf, chunkBytes, directoryOf, shapeOf, reportOf, reportAt}

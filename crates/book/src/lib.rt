@@ -10,8 +10,8 @@ use chunk::Chunk;
 use entries::Limits;
 use entries::Place;
 use header::Record;
+use quickref::Hit;
 use seek::CountedChild;
-use seek::Hit;
 
 // The five numbers of an entry: where its name stands in the file, the name's length, section, offset, length.
 pub struct Report {

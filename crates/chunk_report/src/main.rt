@@ -5,8 +5,8 @@ use chunk::Chunk;
 use entries::Kind;
 use entries::Limits;
 use libc::STDOUT_FILENO;
+use quickref::Hit;
 use seek::Child;
-use seek::Hit;
 
 fn number(n: u64) {
     io::write_all(STDOUT_FILENO, b" ");
@@ -48,13 +48,13 @@ fn sought(c: &[u8], limits: Limits, kind: Kind, name: &[u8]) {
 
 fn searches(c: &[u8], limits: Limits, kind: Kind) {
     io::write_all(STDOUT_FILENO, b" :");
-    place(seek::first_entry(c, limits, kind));
-    place(seek::nth_entry(c, limits, kind, 4));
-    place(seek::nth_entry(c, limits, kind, 5));
-    place(seek::nth_entry(c, limits, kind, 9));
-    place(seek::nth_entry(c, limits, kind, 10));
-    place(seek::nth_entry(c, limits, kind, 65535));
-    place(seek::last_entry(c, limits, kind));
+    place(quickref::first_entry(c, limits, kind));
+    place(quickref::nth_entry(c, limits, kind, 4));
+    place(quickref::nth_entry(c, limits, kind, 5));
+    place(quickref::nth_entry(c, limits, kind, 9));
+    place(quickref::nth_entry(c, limits, kind, 10));
+    place(quickref::nth_entry(c, limits, kind, 65535));
+    place(quickref::last_entry(c, limits, kind));
     io::write_all(STDOUT_FILENO, b" :");
     sought(c, limits, kind, b"/");
     sought(c, limits, kind, b"/000");

@@ -9,9 +9,10 @@ use native.Mathlib.Omega.{arith}
 use Rattle.refusals.specs.Refusals.{refusalOf}
 use Rattle.refusals.specs.declared.Refusal.{Refusal}
 use Rattle.names.specs.Names.{askable, compared}
-use Rattle.seek.specs.Seek.{Sought, soughtOf, findIn, chooseIn}
-use Rattle.seek.specs.declared.Hit.{Hit}
-use Rattle.seek.specs.declared.Hit.the-variants.{At, Nothing}
+use Rattle.quickref.specs.Quickref.{Sought, soughtOf}
+use Rattle.quickref.specs.declared.Hit.{Hit}
+use Rattle.quickref.specs.declared.Hit.the-variants.{At, Nothing}
+use Rattle.seek.specs.Seek.{findIn, chooseIn}
 use Rattle.header.specs.declared.Record.{Record}
 use Rattle.tree.specs.Tree.{top}
 use Rattle.tree.specs.Descent.{Outcome, found, absent, refused, answer, onward}

@@ -10,10 +10,10 @@ use borrow.Author.Tests.{eqb-true, eqb-false}
 use Rattle.refusals.specs.Refusals.{noChunk}
 use Rattle.entries.specs.declared.Place.{Place}
 use Rattle.entries.specs.declared.Kind.the-variants.{Listing}
-use Rattle.seek.specs.Seek.{nthIn}
+use Rattle.quickref.specs.Quickref.{nthIn}
 use Rattle.chunk.specs.Chunk.{Parsed, entryOf}
-use Rattle.seek.specs.declared.Hit.{Hit}
-use Rattle.seek.specs.declared.Hit.the-variants.{At as HitAt, Nothing as HitNothing}
+use Rattle.quickref.specs.declared.Hit.{Hit}
+use Rattle.quickref.specs.declared.Hit.the-variants.{At as HitAt, Nothing as HitNothing}
 use Rattle.header.specs.declared.Record.{Record}
 use Rattle.tree.specs.Shape.{isListing, listingChunk}
 use Rattle.tree.proofs.Chunks.{listing-chunk}
@@ -25,7 +25,7 @@ use Rattle.listing.specs.declared.Step.{Step}
 use Rattle.listing.specs.declared.Step.the-variants.{Entry as Reported}
 use Rattle.listing.specs.declared.Owned.{Owned}
 use Rattle.listing.specs.declared.Owned.the-variants.{At, Nothing}
-use Rattle.seek.proofs.Steps.{nth-read}
+use Rattle.quickref.proofs.Steps.{nth-read}
 use Rattle.listing.proofs.Stepping.{entry-absent, step-unfit, step-end, step-other, step-entry, some-chunk}
 
 module _ (s : List ℕ) (book : Record) (at : Cursor) where

@@ -7,7 +7,7 @@ use native.Mathlib.Omega.{arith}
 use lib.ListN.{length, take, drop, length-drop}
 use lib.Seq.{drop-drop}
 use Rattle.chunk.specs.Chunk.{Entry, entriesIn}
-use Rattle.seek.specs.Seek.{found, nth}
+use Rattle.quickref.specs.Quickref.{found, nth}
 use Rattle.header.specs.declared.Record.{Record}
 use Rattle.tree.specs.Shape.{nextOf, listingChunk}
 use Rattle.book.specs.Book.{directoryOf, shapeOf, recordFits, reportOf}

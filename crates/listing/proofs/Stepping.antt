@@ -10,9 +10,9 @@ use Rattle.refusals.specs.Refusals.{noChunk, refusalOf}
 use Rattle.entries.specs.declared.Place.{Place}
 use Rattle.entries.specs.declared.Kind.the-variants.{Listing}
 use Rattle.chunk.specs.Chunk.{Entry, Parsed, entryOf, entryCount, entriesIn}
-use Rattle.seek.specs.Seek.{absent, found, nth, nthIn}
-use Rattle.seek.specs.declared.Hit.{Hit}
-use Rattle.seek.specs.declared.Hit.the-variants.{At, Nothing}
+use Rattle.quickref.specs.Quickref.{absent, found, nth, nthIn}
+use Rattle.quickref.specs.declared.Hit.{Hit}
+use Rattle.quickref.specs.declared.Hit.the-variants.{At, Nothing}
 use Rattle.header.specs.declared.Record.{Record}
 use Rattle.tree.specs.Shape.{isListing, nextOf, listingChunk}
 use Rattle.book.specs.Book.{limitsOf, chunkBytes, directoryOf, shapeOf, recordFits, reportOf, reportAt}

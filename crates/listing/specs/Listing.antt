@@ -8,7 +8,7 @@ use lib.Dec.{ltb, leb, eqb}
 use Rattle.refusals.specs.Refusals.{noChunk, refusalOf}
 use Rattle.fields.specs.Part.{partOf}
 use Rattle.chunk.specs.Chunk.{Parsed, entriesIn}
-use Rattle.seek.specs.Seek.{Sought, absent, found, nth}
+use Rattle.quickref.specs.Quickref.{Sought, absent, found, nth}
 use Rattle.header.specs.declared.Record.{Record}
 use Rattle.tree.specs.Shape.{nextOf, listingChunk}
 use Rattle.book.specs.Book.{directoryOf, shapeOf, recordFits, reportOf, ownOf, OwnBytes}

@@ -15,8 +15,8 @@ use chunk::Chunk;
 use entries::Item;
 use entries::Kind;
 use header::Record;
+use quickref::Hit;
 use refusals::Refusal;
-use seek::Hit;
 
 // The chunk and the number of the entry to be reported next.
 pub struct Cursor {
@@ -51,7 +51,7 @@ fn step_in(file: &[u8], book: Record, at: Cursor, next: u32) -> Step
     ensures { λ r. ⌜ r ≡ entryStep book (directoryOf (now (file .entry)) book (at .chunk)) at ⌝ }
 {
     let c = book::chunk_bytes(file, book, at.chunk);
-    let Hit::At(e) = seek::nth_entry(
+    let Hit::At(e) = quickref::nth_entry(
         c,
         book::limits(file, book),
         Kind::Listing,
@@ -115,7 +115,7 @@ impl Cursor {
             return Owned::Nothing;
         };
         let c = book::chunk_bytes(file, book, self.chunk);
-        match seek::nth_entry(
+        match quickref::nth_entry(
             c,
             book::limits(file, book),
             Kind::Listing,

@@ -7,7 +7,7 @@ use native.Mathlib.Omega.{arith}
 use lib.ListN.{getD, set}
 use Rattle.fields.proofs.Tests.{never}
 use Rattle.refusals.specs.Refusals.{refusalOf}
-use Rattle.seek.specs.Seek.{Sought}
+use Rattle.quickref.specs.Quickref.{Sought}
 use Rattle.header.specs.declared.Record.{Record}
 use Rattle.tree.specs.Shape.{listingChunk, indexChunk}
 use Rattle.tree.specs.Descent.{absent, refused, childFor, onward, outcomeFrom, trailFrom}

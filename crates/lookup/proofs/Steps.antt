@@ -7,10 +7,11 @@ use lib.ListN.{getD}
 use Rattle.refusals.specs.Refusals.{refusalOf}
 use Rattle.names.specs.Names.{compared}
 use Rattle.chunk.specs.Chunk.{entriesIn}
-use Rattle.seek.specs.Seek.{Sought, entryNamed, chooseIn}
+use Rattle.quickref.specs.Quickref.{Sought}
+use Rattle.quickref.specs.declared.Hit.{Hit}
+use Rattle.seek.specs.Seek.{entryNamed, chooseIn}
 use Rattle.seek.specs.declared.CountedChild.{CountedChild}
 use Rattle.seek.specs.declared.Child.the-variants.{Below, Nowhere}
-use Rattle.seek.specs.declared.Hit.{Hit}
 use Rattle.header.specs.declared.Record.{Record}
 use Rattle.tree.specs.Shape.{nextOf, listingChunk, indexChunk}
 use Rattle.tree.specs.Descent.{refused, answer, outcomeFrom}

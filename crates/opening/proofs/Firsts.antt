@@ -11,11 +11,11 @@ use Rattle.entries.specs.declared.Place.{Place}
 use Rattle.entries.proofs.Laws.{item-inside}
 use Rattle.chunk.specs.Chunk.{Entry, firstPlace, entryCount, tailLength, parsed, entriesIn, isKind, kindOf}
 use Rattle.chunk.proofs.Accepted.{chunk-accepted, entries-count}
-use Rattle.seek.specs.Seek.{Sought, absent, found, nth, nameIn, final, soughtOf, nthIn, firstIn, lastIn}
-use Rattle.seek.specs.declared.Hit.{Hit}
-use Rattle.seek.specs.declared.Hit.the-variants.{At, Nothing}
-use Rattle.seek.proofs.Steps.{nth-read}
-use Rattle.seek.proofs.Good.{nth-good, last-good}
+use Rattle.quickref.specs.Quickref.{Sought, absent, found, nth, nameIn, final, soughtOf, nthIn, firstIn, lastIn}
+use Rattle.quickref.specs.declared.Hit.{Hit}
+use Rattle.quickref.specs.declared.Hit.the-variants.{At, Nothing}
+use Rattle.quickref.proofs.Steps.{nth-read}
+use Rattle.quickref.proofs.Good.{nth-good, last-good}
 use Rattle.header.specs.declared.Record.{Record}
 use Rattle.book.specs.Book.{limitsOf, chunkBytes, directoryOf}
 use Rattle.opening.specs.Passes.{GoodBook, FirstHit}

@@ -14,8 +14,8 @@ use Rattle.chunk.specs.Chunk.{Parsed, isGood}
 use Rattle.chunk.specs.Answer.{chunkOf}
 use Rattle.chunk.specs.declared.Chunk.{Chunk}
 use Rattle.chunk.specs.declared.Chunk.the-variants.{Refused, Listing, Index}
-use Rattle.seek.specs.declared.Hit.{Hit}
-use Rattle.seek.specs.declared.Hit.the-variants.{At, Nothing}
+use Rattle.quickref.specs.declared.Hit.{Hit}
+use Rattle.quickref.specs.declared.Hit.the-variants.{At, Nothing}
 use Rattle.header.specs.declared.Record.{Record}
 use Rattle.tree.specs.Shape.{Shape, previousOf, nextOf, firstName, lastName, listingChunk}
 use Rattle.tree.specs.Walk as W

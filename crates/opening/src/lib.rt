@@ -16,8 +16,8 @@ use entries::Item;
 use entries::Kind;
 use header::CheckedHeader;
 use header::Record;
+use quickref::Hit;
 use refusals::Refusal;
-use seek::Hit;
 
 // The record of a book that keeps every rule, or the first refusal.
 pub enum Opened {
@@ -104,7 +104,7 @@ fn first_of(file: &[u8], book: Record, c: u64) -> Hit
     ensures { λ r. ⌜ FirstHit (now (file .entry)) book c r ⌝ }
 {
     let bytes = book::chunk_bytes(file, book, c);
-    seek::first_entry(bytes, book::limits(file, book), chunk::kind_of(bytes))
+    quickref::first_entry(bytes, book::limits(file, book), chunk::kind_of(bytes))
 }
 
 // The first name of a chunk of a good book, in its bytes.
@@ -143,7 +143,7 @@ fn names_rise(file: &[u8], book: Record, c: u64, d: u64) -> bool
     ensures { λ r. ⌜ r ≡ below (lastName (directoryOf (now (file .entry)) book c)) (firstName (directoryOf (now (file .entry)) book d)) ⌝ }
 {
     let bytes = book::chunk_bytes(file, book, c);
-    let Hit::At(e) = seek::last_entry(bytes, book::limits(file, book), Kind::Listing) else {
+    let Hit::At(e) = quickref::last_entry(bytes, book::limits(file, book), Kind::Listing) else {
         return false;
     };
     let start = e.start;

@@ -9,7 +9,7 @@ use Rattle.names.specs.Names.{below}
 use Rattle.entries.specs.declared.Kind.{Kind}
 use Rattle.entries.specs.declared.Kind.the-variants.{Listing, Index}
 use Rattle.chunk.specs.Chunk.{Parsed}
-use Rattle.seek.specs.Seek.{Sought, absent, found, nth, nameIn, final}
+use Rattle.quickref.specs.Quickref.{Sought, absent, found, nth, nameIn, final}
 use Rattle.entries.proofs.Rising.{rising-more}
 use Rattle.entries.specs.Rising.{rising}
 use Rattle.entries.specs.Stored.{Stored, storedName}

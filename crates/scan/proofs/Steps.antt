@@ -3,7 +3,7 @@ use mathlib.Core.Path.{_≡_, sym, ap, _∙_}
 use mathlib.Core.List.{List}
 use Prim.Native.Nat.{ℕ, _-_, _≤_, _<_}
 use Rattle.refusals.specs.Refusals.{noChunk, refusalOf}
-use Rattle.seek.proofs.Steps.{some-left, none-left}
+use Rattle.quickref.proofs.Steps.{some-left, none-left}
 use Rattle.header.specs.declared.Record.{Record}
 use Rattle.tree.specs.Descent.{Outcome}
 use Rattle.tree.specs.Walk.{plainFrom}

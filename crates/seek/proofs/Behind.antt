@@ -13,17 +13,9 @@ use Rattle.names.proofs.Laws.{notGreater, names-laws, isLess-true, below-less, 
 use Rattle.entries.specs.Rising.{rising}
 use Rattle.chunk.specs.Chunk.{Entry, entryName}
 use Rattle.entries.proofs.Rising.{rising-more, rising-at}
-use Rattle.seek.specs.Seek.{Sought, absent, found, entryNamed, choice, nth, nameIn}
-
--- some entry, for places past the last
-abbrev pub other : Entry
-other = record { at = 0; start = 0; name = []; section = 0; offset = 0; size = 0; child = 0; next = 0 }
-
-pub nth-name : (j : ℕ) (es : List Entry) → nameIn (nth j es) ≡ getD es j other .name
-unfolding nth
-nth-name j [] = refl
-nth-name zero (e ∷ es) = refl
-nth-name (suc j) (e ∷ es) = nth-name j es
+use Rattle.quickref.specs.Quickref.{Sought, absent, found}
+use Rattle.quickref.proofs.Groups.{other}
+use Rattle.seek.specs.Seek.{entryNamed, choice}
 
 -- what is below y is below a name that y is not above
 below-it : (name x y : List ℕ) → below x y ≡ true → isLess (compared name y) ≡ false → compared name x ≡ Greater

@@ -24,10 +24,14 @@ use Rattle.entries.specs.declared.Kind.{Kind}
 use Rattle.entries.specs.declared.Kind.the-variants.{Listing, Index}
 use Rattle.chunk.specs.Chunk.{Entry, all, entryOf, entriesAt, entryCount, tailLength, spacingOf, quickCount, parsed, entriesIn, isKind}
 use Rattle.chunk.proofs.Accepted.{chunk-accepted, entries-more}
-use Rattle.seek.specs.Seek.{Stand, byOrder, groupAt, groupAbove, lastGroup, groupIn, sizeIn}
-use Rattle.seek.specs.Count.{passed, aboveIn, groupOf, comparisons, comparedAt, walked, halvingsIn, costIn}
-use Rattle.seek.proofs.Halving.{halvings-few, halvings-fuel}
-use Rattle.seek.proofs.Groups.{group-entries, last-inside, entries-counted, group-right, same-group, same-halvings}
+use Rattle.quickref.specs.Quickref.{groupAt}
+use Rattle.quickref.proofs.Groups.{group-entries, entries-counted}
+use Rattle.halving.specs.Halving.{Stand, groupAbove, lastGroup, groupIn, sizeIn}
+use Rattle.halving.specs.Halvings.{aboveIn, groupOf, halvingsIn}
+use Rattle.halving.proofs.Halving.{halvings-few, halvings-fuel}
+use Rattle.halving.proofs.Same.{last-inside, group-right, same-group, same-halvings}
+use Rattle.seek.specs.Seek.{byOrder}
+use Rattle.seek.specs.Count.{passed, comparisons, comparedAt, walked, costIn}
 
 -- ---- the bound
 

@@ -5,8 +5,10 @@ use Prim.Native.Nat.{ℕ}
 use Rattle.names.specs.Order.{byNumber, byElement}
 use Rattle.names.specs.Names.{folded, compared}
 use Rattle.chunk.specs.Chunk.{Entry}
-use Rattle.seek.specs.Seek.{nth, halved}
-use Rattle.seek.specs.Count.{halvings, passed, comparisons}
+use Rattle.quickref.specs.Quickref.{nth}
+use Rattle.halving.specs.Halving.{halved}
+use Rattle.halving.specs.Halvings.{halvings}
+use Rattle.seek.specs.Count.{passed, comparisons}
 
 called : ℕ → Entry
 called x = record { at = 0; start = 0; name = x ∷ []; section = 0; offset = 0; size = 0; child = 0; next = 0 }

@@ -1,17 +1,12 @@
 -- On a chunk that passes its check, each search over its bytes is the search among its entries.
 --     find-good      the entry of a name
 --     choose-good    the entry to go down from
---     nth-good       entry i
---     last-good      the last entry
 use mathlib.Core.Path.{_≡_, refl, sym, ap, subst, _∙_}
 use mathlib.Core.List.{List, [], _∷_}
 use mathlib.Core.Bool.{true, cond}
-use Prim.Native.Nat.{ℕ, zero, suc, _+_, _-_, _*_, _/_, _%_, _≤_, _<_}
+use Prim.Native.Nat.{ℕ, zero, suc, _-_, _*_, _≤_}
 use native.Mathlib.Omega.{arith}
-use native.Mathlib.Decide.{decLt}
-use native.Mathlib.Nat.{div-add-mod'}
-use lib.ListN.{length, take, drop}
-use borrow.Author.Tests.{lt-ltb, le-ltb}
+use lib.ListN.{take, drop}
 use Rattle.names.specs.Order.{isLess, isEqual}
 use Rattle.names.proofs.Laws.{notGreater}
 use Rattle.names.specs.Names.{compared, below, matches}
@@ -20,17 +15,20 @@ use Rattle.names.specs.declared.Order.the-variants.{Less, Equal, Greater}
 use Rattle.entries.specs.Entry.{nameOf}
 use Rattle.entries.specs.declared.Limits.{Limits}
 use Rattle.entries.specs.declared.Place.{Place}
-use Rattle.entries.specs.declared.Kind.{Kind}
 use Rattle.entries.specs.declared.Kind.the-variants.{Listing, Index}
 use Rattle.entries.specs.Rising.{rising}
-use Rattle.chunk.specs.Chunk.{Entry, all, entryOf, entriesAt, firstPlace, entryCount, tailLength, spacingOf, parsed, entriesIn, isKind, entryName}
+use Rattle.chunk.specs.Chunk.{Entry, all, entryOf, entriesAt, entryCount, tailLength, spacingOf, parsed, entriesIn, isKind, entryName}
 use Rattle.entries.proofs.Rising.{rising-more, rising-take, rising-drop}
-use Rattle.chunk.proofs.Accepted.{Accepted, chunk-accepted, entries-more, entries-count}
-use Rattle.seek.specs.Seek.{byOrder, absent, found, entryNamed, choice, nth, final, soughtOf, findAt, chooseAt, afterAt, groupAt, groupIn, sizeIn, nthIn, findIn, chooseIn, lastIn}
+use Rattle.chunk.proofs.Accepted.{chunk-accepted, entries-more}
+use Rattle.quickref.specs.Quickref.{absent, found, soughtOf, groupAt}
+use Rattle.quickref.proofs.Groups.{group-entries}
+use Rattle.quickref.specs.declared.Hit.{Hit}
+use Rattle.quickref.specs.declared.Hit.the-variants.{At, Nothing}
+use Rattle.halving.specs.Halving.{groupIn, sizeIn}
+use Rattle.halving.proofs.Same.{last-inside, group-right}
+use Rattle.seek.specs.Seek.{byOrder, entryNamed, choice, findAt, chooseAt, findIn, chooseIn}
 use Rattle.seek.proofs.Behind.{lookup-behind, choice-behind}
-use Rattle.seek.proofs.Groups.{group-entries, last-inside, group-right, group-lookup, group-choice}
-use Rattle.seek.specs.declared.Hit.{Hit}
-use Rattle.seek.specs.declared.Hit.the-variants.{At, Nothing}
+use Rattle.seek.proofs.Groups.{group-lookup, group-choice}
 
 -- ---- the entry of a name
 
@@ -78,71 +76,6 @@ choose-all limits s name end (suc n) (suc m) at x best es l e r =
     rw (t .2) (choose-here s name p best (chooseAt limits s (compared name) (At p) m (p .next)) (take m (t .1)) (compared name (nameOf s p)) refl (rising-take entryName m (nameOf s p) (t .1) (q .1)) i) in
     here ∙ ap (λ (l : List Entry). choice name (soughtOf s best) (take (suc m) l)) (sym (t .3))
 
--- ---- entry i
-
-pub nth-past : (i : ℕ) (es : List Entry) → length es ≤ i → nth i es ≡ absent
-unfolding nth
-nth-past i [] h = refl
-nth-past zero (e ∷ es) h = absurd (omega arith)
-nth-past (suc i) (e ∷ es) h = nth-past i es (omega arith)
-
-nth-drop : (m j : ℕ) (es : List Entry) → nth j (drop m es) ≡ nth (m + j) es
-unfolding nth
-nth-drop zero j es = ap (λ (x : ℕ). nth x es) (omega arith)
-nth-drop (suc m) j [] = refl
-nth-drop (suc m) j (e ∷ es) = let z : suc (m + j) ≡ suc m + j = omega arith in nth-drop m j es ∙ ap (λ (x : ℕ). nth x (e ∷ es)) z
-
-after-all : (limits : Limits) (k : Kind) (s : List ℕ) (end n j at : ℕ) (es : List Entry) → j < n → entriesAt limits k s end n at ≡ all es
-    → soughtOf s (afterAt limits k s j at) ≡ nth j es
-unfolding afterAt nth
-after-all limits k s end zero j at es h e = absurd (omega arith)
-after-all limits k s end (suc n) zero at es h e =
-    let m = entries-more limits k s end n at es e in
-    let here : soughtOf s (afterAt limits k s 0 at) ≡ nth 0 (entryOf s (m .0) ∷ m .1) = rw (m .2) refl in
-    here ∙ ap (nth 0) (sym (m .3))
-after-all limits k s end (suc n) (suc j) at es h e =
-    let m = entries-more limits k s end n at es e in
-    let here : soughtOf s (afterAt limits k s (suc j) at) ≡ nth (suc j) (entryOf s (m .0) ∷ m .1) =
-    rw (m .2) (after-all limits k s end n j (m .0 .next) (m .1) (omega arith) (m .4)) in
-    here ∙ ap (nth (suc j)) (sym (m .3))
-
-module _ (limits : Limits) (k : Kind) (s : List ℕ) (es : List Entry) (good : Accepted limits k s es) where
-  abbrev n : ℕ
-  n = spacingOf (limits .density)
-
-  nth-inside : (i : ℕ) → i < entryCount s → soughtOf s (nthIn limits k s i) ≡ nth i es
-  unfolding nthIn
-  nth-inside i l =
-      let g = i / n in
-      let j = i % n in
-      let i-is : g * n + j ≡ i = div-add-mod' i n in
-      let low : g * n < entryCount s = omega arith in
-      let f = group-entries limits k s es good g low in
-      rw (lt-ltb _ _ l)
-      (after-all limits k s (4096 - tailLength s) (entryCount s - g * n) j (groupAt k s g) (drop (g * n) es) (omega arith) f
-      ∙ nth-drop (g * n) j es ∙ ap (λ (x : ℕ). nth x es) i-is)
-
-  nth-outside : (i : ℕ) → entryCount s ≤ i → soughtOf s (nthIn limits k s i) ≡ nth i es
-  unfolding nthIn
-  nth-outside i l =
-      let c = entries-count limits k s (4096 - tailLength s) (entryCount s) (firstPlace k) es (good .entries) in
-      rw (le-ltb _ _ l) (sym (nth-past i es (omega arith)))
-
-  nth-accepted : (i : ℕ) → soughtOf s (nthIn limits k s i) ≡ nth i es
-  nth-accepted i = elim (decLt i (entryCount s)) [ yes l ↦ nth-inside i l | no l ↦ nth-outside i (omega arith) ]
-
--- ---- the last entry
-
-nth-final : (e : Entry) (es : List Entry) → nth (length es) (e ∷ es) ≡ final (found e) es
-unfolding nth final
-nth-final e [] = refl
-nth-final e (d ∷ es) = nth-final d es
-
-pub nth-last : (es : List Entry) → nth (length es - 1) es ≡ final absent es
-unfolding nth final
-nth-last [] = refl
-nth-last (e ∷ es) = let z : suc (length es) - 1 ≡ length es = omega arith in ap (λ (x : ℕ). nth x (e ∷ es)) z ∙ nth-final e es
-
 -- ---- a chunk that passes its check
 
 module _ (limits : Limits) (s : List ℕ) where
@@ -167,13 +100,3 @@ module _ (limits : Limits) (s : List ℕ) where
       choose-all limits s name (4096 - tailLength s) (entryCount s - g * spacingOf (limits .density)) (sizeIn limits s g) (groupAt Index s g) [] Nothing (drop (g * spacingOf (limits .density)) es) (omega arith)
       (group-entries limits Index s es a g (last-inside limits Index s es a g (r .0))) b
       ∙ sym (group-choice limits Index s es a name g r)
-
-  pub nth-good : (k : Kind) (i : ℕ) → isKind k (parsed limits s) ≡ true → soughtOf s (nthIn limits k s i) ≡ nth i (entriesIn (parsed limits s))
-  nth-good k i h = nth-accepted limits k s (entriesIn (parsed limits s)) (chunk-accepted limits k s h) i
-
-  pub last-good : (k : Kind) → isKind k (parsed limits s) ≡ true → soughtOf s (lastIn limits k s) ≡ final absent (entriesIn (parsed limits s))
-  last-good k h =
-      let es = entriesIn (parsed limits s) in
-      let g = chunk-accepted limits k s h in
-      let c = entries-count limits k s (4096 - tailLength s) (entryCount s) (firstPlace k) es (g .entries) in
-      nth-good k (entryCount s - 1) h ∙ ap (λ (x : ℕ). nth (x - 1) es) (sym c) ∙ nth-last es

@@ -1,5 +1,4 @@
 pub mod Steps
-pub mod Halving
 pub mod Behind
 pub mod Groups
 pub mod Good

@@ -1,15 +1,11 @@
 -- What one turn of a search over a chunk's bytes finds, with `left` entries left and the next at a place.
 use mathlib.Core.Path.{_≡_, refl, sym, ap, _∙_}
 use mathlib.Core.List.{List}
-use Prim.Native.Nat.{ℕ, zero, suc, _+_, _-_, _/_, _%_, _≤_, _<_}
+use Prim.Native.Nat.{ℕ, zero, suc, _+_, _-_, _≤_, _<_}
 use native.Mathlib.Omega.{arith}
-use native.Mathlib.Decide.{decLe}
 use lib.ListN.{length}
-use lib.Dec.{ltb}
-use borrow.Author.Tests.{ltb-true}
 use Rattle.names.specs.declared.Order.{Order}
 use Rattle.names.specs.declared.Order.the-variants.{Less, Equal, Greater}
-use Rattle.fields.proofs.Le.{le-past}
 use Rattle.fields.specs.Part.{part}
 use Rattle.encint.specs.declared.Number.{Number}
 use Rattle.encint.specs.declared.Number.the-variants.{Value}
@@ -18,22 +14,16 @@ use Rattle.entries.specs.declared.Limits.{Limits}
 use Rattle.entries.specs.declared.Place.{Place}
 use Rattle.entries.specs.declared.Item.{Item}
 use Rattle.entries.specs.declared.Item.the-variants.{Good, Bad}
-use Rattle.entries.proofs.Laws.{onItem, test-passed, item-inside, item-named, item-unnamed}
-use Rattle.entries.specs.declared.Kind.{Kind}
+use Rattle.entries.proofs.Laws.{item-inside, item-named, item-unnamed}
 use Rattle.entries.specs.declared.Kind.the-variants.{Listing, Index}
-use Rattle.chunk.specs.Chunk.{entryCount, spacingOf, countPlace}
-use Rattle.seek.specs.Seek.{Stand, byOrder, findAt, chooseAt, childOf, afterAt, groupAt, nthIn}
+use Rattle.quickref.specs.declared.Hit.{Hit}
+use Rattle.quickref.specs.declared.Hit.the-variants.{At, Nothing}
+use Rattle.quickref.proofs.Steps.{some-left, none-left}
+use Rattle.halving.specs.Halving.{Stand}
+use Rattle.seek.specs.Seek.{byOrder, findAt, chooseAt, childOf}
 use Rattle.seek.specs.Count.{comparedAt, walked}
 use Rattle.seek.specs.declared.CountedHit.{CountedHit}
 use Rattle.seek.specs.declared.Child.the-variants.{Below}
-use Rattle.seek.specs.declared.Hit.{Hit}
-use Rattle.seek.specs.declared.Hit.the-variants.{At, Nothing}
-
-pub some-left : {A : Type 0} (f : ℕ → A) (left : ℕ) → 0 < left → f left ≡ f (suc (left - 1))
-some-left f left h = ap f (omega arith)
-
-pub none-left : {A : Type 0} (f : ℕ → A) (left : ℕ) → left ≤ 0 → f left ≡ f 0
-none-left f left h = ap f (omega arith)
 
 -- a hit beside a count
 abbrev beside : Hit → ℕ → CountedHit
@@ -135,30 +125,6 @@ module _ (limits : Limits) (s : List ℕ) (stand : Stand) where
           ∙ rw (g, named-order Greater o e g, q, o)
           (one-more (chooseAt limits s stand (At e) (left - 1) (e .next)) count (walked limits Index s stand (left - 1) (e .next)) more r)
 
--- what is no entry ends the walk, however many entries are left
-pub after-bad : (limits : Limits) (k : Kind) (s : List ℕ) (left at : ℕ) → itemAt limits k s at ≡ Bad → afterAt limits k s left at ≡ Nothing
-unfolding afterAt
-after-bad limits k s zero at g = rw g refl
-after-bad limits k s (suc left) at g = rw g refl
-
-module _ (limits : Limits) (k : Kind) (s : List ℕ) (left at : ℕ) where
-  pub after-on : (e : Place) → 0 < left → itemAt limits k s at ≡ Good e → afterAt limits k s left at ≡ afterAt limits k s (left - 1) (e .next)
-  unfolding afterAt
-  after-on e h g = some-left (λ n. afterAt limits k s n at) left h ∙ rw g refl
-
-  pub after-here : (e : Place) → left ≤ 0 → itemAt limits k s at ≡ Good e → afterAt limits k s left at ≡ At e
-  unfolding afterAt
-  after-here e h g = none-left (λ n. afterAt limits k s n at) left h ∙ rw g refl
-
--- ---- a chunk that has a count has its bytes in front of the count's last
-
-pub counted : (s : List ℕ) → 0 < entryCount s → countPlace < length s
-counted s h =
-    elim (decLe (length s) countPlace) [
-      | yes l ↦ absurd (omega (arith, h, le-past 2 s countPlace l))
-      | no l ↦ omega arith
-    ]
-
 -- ---- what is found was read in the chunk, so that it lies inside, and its name is the asked one
 
 -- an entry that was read somewhere in the chunk, with a name equal to the asked one
@@ -186,27 +152,3 @@ find-inside limits s stand e n at q =
     let r = find-read limits s stand e n at q in
     let i = item-inside limits Listing s (r .0) e (r .1 .0) in
     (i .name, i .some)
-
--- ---- so is entry i
-
-hit-item : (i : Item) (e : Place) → withItem i Nothing (λ p. At p) ≡ At e → i ≡ Good e
-hit-item Bad e h = absurd (let z : _≡_ {A = ℕ} 0 1 = cc in omega arith)
-hit-item (Good p) e h = ap Good (let z : p ≡ e = cc in z)
-
-after-read : (limits : Limits) (k : Kind) (s : List ℕ) (j at : ℕ) (e : Place) → afterAt limits k s j at ≡ At e
-    → (p : ℕ) × (itemAt limits k s p ≡ Good e)
-unfolding afterAt
-after-read limits k s zero at e h = (at, hit-item (itemAt limits k s at) e h)
-after-read limits k s (suc j) at e h =
-    onItem (itemAt limits k s at)
-    (λ g. absurd (let d : Nothing ≡ At e = rw g at h in let z : _≡_ {A = ℕ} 0 1 = cc in omega arith))
-    (λ p g. after-read limits k s j (p .next) e (rw g at h))
-
-pub nth-read : (limits : Limits) (k : Kind) (s : List ℕ) (i : ℕ) (e : Place) → nthIn limits k s i ≡ At e
-    → (i < entryCount s) × (p : ℕ) × (itemAt limits k s p ≡ Good e)
-unfolding nthIn
-nth-read limits k s i e h =
-    let n : ℕ = spacingOf (limits .density) in
-    let t = test-passed (ltb i (entryCount s)) (afterAt limits k s (i % n) (groupAt k s (i / n))) Nothing (At e) (λ d. let z : _≡_ {A = ℕ} 0 1 = cc in omega arith) h in
-    let r = after-read limits k s (i % n) (groupAt k s (i / n)) e (t .1) in
-    (ltb-true i (entryCount s) (t .0), r .0, r .1)

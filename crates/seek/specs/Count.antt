@@ -1,12 +1,9 @@
 -- How many comparisons of the asked name a search in one chunk makes. First over the list of a chunk's entries, which is what is meant; then over the
 -- chunk's bytes, which is how it goes. `cost-good` of proofs/Counts.antt says that on a chunk that passes its check the two are the same.
 use mathlib.Core.List.{List, [], _∷_}
-use mathlib.Core.Bool.{Bool, cond}
-use Prim.Native.Nat.{ℕ, zero, suc, _+_, _-_, _*_, _^_, _≤_}
-use lib.Dec.{ltb}
+use Prim.Native.Nat.{ℕ, zero, suc, _+_, _*_, _^_, _≤_}
 use lib.ListN.{length, take, drop}
 use Rattle.fields.specs.Part.{part}
-use Rattle.names.specs.Order.{isLess}
 use Rattle.encint.specs.declared.Number.{Number}
 use Rattle.encint.specs.declared.Number.the-variants.{Value, Bad}
 use Rattle.entries.specs.Entry.{withNumber, nameAt, itemAt, withItem}
@@ -14,23 +11,12 @@ use Rattle.entries.specs.declared.Limits.{Limits}
 use Rattle.entries.specs.declared.Kind.{Kind}
 use Rattle.entries.specs.declared.Kind.the-variants.{Listing, Index}
 use Rattle.chunk.specs.Chunk.{Entry, quickCount}
-use Rattle.seek.specs.Seek.{Stand, byOrder, nth, nameIn, middle, halved, groupAt, groupAbove, lastGroup, groupIn, sizeIn}
+use Rattle.quickref.specs.Quickref.{groupAt}
+use Rattle.halving.specs.Halving.{Stand, groupIn, sizeIn}
+use Rattle.halving.specs.Halvings.{halvings, aboveIn, groupOf, halvingsIn}
+use Rattle.seek.specs.Seek.{byOrder}
 
--- groups lo to hi are left: how many first names are compared until one group is (Q9), i at most. The recursion is that of `halved`
-unfoldable pub halvings : (ℕ → Bool) → ℕ → ℕ → ℕ → ℕ
-halvings above zero lo hi = 0
-halvings above (suc i) lo hi =
-    cond (ltb lo hi) (suc (cond (above (middle lo hi)) (halvings above i lo (middle lo hi - 1)) (halvings above i (middle lo hi) hi))) 0
-
--- ---- among entries, n in each group but the last (Q8)
-
--- the first name of group g is above the asked one
-abbrev pub aboveIn : ℕ → Stand → List Entry → ℕ → Bool
-aboveIn n stand es g = isLess (stand (nameIn (nth (g * n) es)))
-
--- the group that is left of all
-abbrev pub groupOf : ℕ → Stand → List Entry → ℕ
-groupOf n stand es = halved (aboveIn n stand es) (quickCount n (length es)) 0 (quickCount n (length es))
+-- ---- among entries
 
 -- from the front up to the first name that is not below the asked one (Q10)
 unfoldable pub passed : Stand → List Entry → ℕ
@@ -61,10 +47,6 @@ walked limits k s stand zero at = 0
 walked limits k s stand (suc n) at =
     withNumber (comparedAt limits k s at) 0 (λ len start.
     suc (byOrder (stand (part s start len)) 0 0 (withItem (itemAt limits k s at) 0 (λ e. walked limits k s stand n (e .next)))))
-
--- to find the group; a turn counts also where its first name is none
-abbrev pub halvingsIn : Limits → Kind → List ℕ → Stand → ℕ
-halvingsIn limits k s stand = halvings (groupAbove k s stand) (lastGroup limits s) 0 (lastGroup limits s)
 
 -- in all
 unfoldable pub costIn : Limits → Kind → List ℕ → Stand → ℕ

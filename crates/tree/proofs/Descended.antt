@@ -10,7 +10,8 @@ use lib.ListN.{length}
 use Rattle.names.specs.Names.{below, matches}
 use Rattle.names.proofs.Laws.{below-trans}
 use Rattle.chunk.specs.Chunk.{Entry, Parsed, entriesIn}
-use Rattle.seek.specs.Seek.{Sought, entryNamed, choice, nth}
+use Rattle.quickref.specs.Quickref.{Sought, nth}
+use Rattle.seek.specs.Seek.{entryNamed, choice}
 use Rattle.tree.specs.Lists.{In, Each, allOf}
 use Rattle.tree.specs.Shape.{Shape, isListing, firstName, GoodChunks, indexChunk}
 use Rattle.tree.specs.Tree.{leaves, shaped}

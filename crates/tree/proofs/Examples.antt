@@ -11,7 +11,8 @@ use Rattle.names.specs.Order.{byNumber, byElement}
 use Rattle.names.specs.Names.{folded, compared, below, matches}
 use Rattle.entries.specs.Rising.{rising}
 use Rattle.chunk.specs.Chunk.{Entry, Parsed, bad, listing, index, entriesIn, entryName, isGood}
-use Rattle.seek.specs.Seek.{entryNamed, choice, nth, final}
+use Rattle.quickref.specs.Quickref.{nth, final}
+use Rattle.seek.specs.Seek.{entryNamed, choice}
 use Rattle.tree.specs.Shape.{Shape, listingChunk, indexChunk, GoodChunks}
 use Rattle.tree.specs.Chain.{chainFrom, chain, linked, chainOk}
 use Rattle.tree.specs.Tree.{top, leaves, indexChunks, shaped, treeOk}

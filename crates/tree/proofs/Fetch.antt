@@ -7,7 +7,8 @@ use Prim.Native.Nat.{ℕ, zero, suc}
 use Rattle.names.specs.Names.{compared}
 use Rattle.entries.specs.declared.Limits.{Limits}
 use Rattle.chunk.specs.Chunk.{Parsed, parsed, entriesIn}
-use Rattle.seek.specs.Seek.{Sought, soughtOf, chooseIn}
+use Rattle.quickref.specs.Quickref.{Sought, soughtOf}
+use Rattle.seek.specs.Seek.{chooseIn}
 use Rattle.seek.proofs.Good.{find-good, choose-good}
 use Rattle.tree.specs.Shape.{Shape}
 use Rattle.tree.specs.Tree.{shaped}

@@ -15,7 +15,7 @@ use Rattle.names.specs.Names.{below}
 use Rattle.names.proofs.Laws.{below-self}
 use Rattle.entries.specs.Rising.{rising}
 use Rattle.chunk.specs.Chunk.{Entry, Parsed, entriesIn, entryName}
-use Rattle.seek.specs.Seek.{nth}
+use Rattle.quickref.specs.Quickref.{nth}
 use Rattle.tree.specs.Lists.{In, Each, Distinct, member, everyBelow}
 use Rattle.tree.specs.Shape.{Shape, isListing, previousOf, nextOf, firstName, lastName, listingChunk, GoodChunks}
 use Rattle.tree.specs.Chain.{chainFrom, chain, entriesOf, chainEntries, linked, chainOk}

@@ -11,7 +11,7 @@ use Rattle.fields.proofs.Same.{same-true}
 use Rattle.fields.proofs.Tests.{never, and-both}
 use Rattle.refusals.specs.Refusals.{noChunk}
 use Rattle.chunk.specs.Chunk.{Entry, Parsed}
-use Rattle.seek.specs.Seek.{nth}
+use Rattle.quickref.specs.Quickref.{nth}
 use Rattle.tree.specs.Lists.{Each}
 use Rattle.tree.specs.Shape.{Shape, firstName}
 use Rattle.tree.specs.Chain.{chain, entriesOf, chainEntries}

@@ -8,7 +8,8 @@ use Rattle.fields.proofs.Tests.{never}
 use Rattle.refusals.specs.Refusals.{noChunk}
 use Rattle.names.specs.Names.{matches}
 use Rattle.chunk.specs.Chunk.{Entry, Parsed, entriesIn}
-use Rattle.seek.specs.Seek.{Sought, entryNamed}
+use Rattle.quickref.specs.Quickref.{Sought}
+use Rattle.seek.specs.Seek.{entryNamed}
 use Rattle.tree.specs.Shape.{Shape, nextOf, listingChunk}
 use Rattle.tree.specs.Descent.{found, absent, refused}
 use Rattle.tree.specs.Reading.{Held, heldAt, readFrom, reading, firstEqual, plain}

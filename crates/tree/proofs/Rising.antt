@@ -10,7 +10,8 @@ use Rattle.names.proofs.Laws.{below-trans}
 use Rattle.entries.specs.Rising.{rising}
 use Rattle.chunk.specs.Chunk.{Entry, entryName}
 use Rattle.entries.proofs.Rising.{rising-more}
-use Rattle.seek.specs.Seek.{Sought, absent, found, entryNamed, choice, nth, nameIn, final}
+use Rattle.quickref.specs.Quickref.{Sought, absent, found, nth, nameIn, final}
+use Rattle.seek.specs.Seek.{entryNamed, choice}
 use Rattle.tree.specs.Lists.{In, Each}
 use Rattle.tree.proofs.Lists.{onTest}
 use Rattle.tree.proofs.Alike.{before-equal}

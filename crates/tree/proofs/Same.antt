@@ -5,7 +5,7 @@ use mathlib.Core.Bool.{Bool, true, false, cond}
 use mathlib.Core.List.{List, [], _∷_}
 use Prim.Native.Nat.{ℕ, zero, suc}
 use Rattle.chunk.specs.Chunk.{Parsed}
-use Rattle.seek.specs.Seek.{Sought}
+use Rattle.quickref.specs.Quickref.{Sought}
 use Rattle.tree.specs.Lists.{In}
 use Rattle.tree.specs.Shape.{Shape, listingChunk, indexChunk}
 use Rattle.tree.specs.Tree.{top}

@@ -9,7 +9,7 @@ use Rattle.fields.specs.Same.{same}
 use Rattle.fields.proofs.Same.{same-true}
 use Rattle.fields.proofs.Tests.{and-both}
 use Rattle.chunk.specs.Chunk.{Entry, Parsed, entriesIn}
-use Rattle.seek.specs.Seek.{nth}
+use Rattle.quickref.specs.Quickref.{nth}
 use Rattle.tree.specs.Lists.{In, allOf}
 use Rattle.tree.specs.Shape.{Shape, isListing, firstName, listingChunk, indexChunk, GoodChunks}
 use Rattle.tree.specs.Chain.{entriesOf}

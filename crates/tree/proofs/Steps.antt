@@ -9,10 +9,11 @@ use native.Mathlib.Numerals.{sub-one}
 use lib.Dec.{eqb}
 use borrow.Author.Tests.{eq-eqb, ne-eqb}
 use Rattle.chunk.specs.Chunk.{Parsed, entriesIn}
-use Rattle.seek.specs.Seek.{soughtOf, childOf}
+use Rattle.quickref.specs.Quickref.{soughtOf}
+use Rattle.quickref.specs.declared.Hit.{Hit}
+use Rattle.quickref.specs.declared.Hit.the-variants.{At, Nothing}
+use Rattle.seek.specs.Seek.{childOf}
 use Rattle.seek.specs.declared.Child.the-variants.{Below, Nowhere}
-use Rattle.seek.specs.declared.Hit.{Hit}
-use Rattle.seek.specs.declared.Hit.the-variants.{At, Nothing}
 use Rattle.tree.specs.Shape.{Shape, nextOf, listingChunk, indexChunk}
 use Rattle.tree.specs.Walk.{stopped, going, intoChild, visit, walkTree, chainRun}
 use Rattle.tree.specs.Descent.{onward}

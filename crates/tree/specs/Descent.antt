@@ -3,7 +3,8 @@ use mathlib.Core.Bool.{cond}
 use mathlib.Core.List.{List, [], _∷_}
 use Prim.Native.Nat.{ℕ, zero, suc}
 use Rattle.chunk.specs.Chunk.{Entry, Parsed, entriesIn}
-use Rattle.seek.specs.Seek.{Sought, entryNamed, choice}
+use Rattle.quickref.specs.Quickref.{Sought}
+use Rattle.seek.specs.Seek.{entryNamed, choice}
 use Rattle.tree.specs.Shape.{Shape, listingChunk, indexChunk}
 use Rattle.tree.specs.Tree.{top}
 

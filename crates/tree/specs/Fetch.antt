@@ -3,7 +3,8 @@ use mathlib.Core.List.{List}
 use Prim.Native.Nat.{ℕ, zero, suc}
 use Rattle.names.specs.Names.{compared}
 use Rattle.entries.specs.declared.Limits.{Limits}
-use Rattle.seek.specs.Seek.{soughtOf, findIn, chooseIn}
+use Rattle.quickref.specs.Quickref.{soughtOf}
+use Rattle.seek.specs.Seek.{findIn, chooseIn}
 use Rattle.tree.specs.Descent.{Outcome, absent, answer, onward}
 
 -- from chunk c of a level on, `bytes` giving the bytes of each chunk number: the search of a listing chunk at level 1 (Q4), else the child that the search of

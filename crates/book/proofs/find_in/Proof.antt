@@ -3,11 +3,11 @@ use denote.Ref.{now}
 use borrow.Author.Needs.{needs}
 use Rattle.names.specs.Names.{compared}
 use Rattle.entries.specs.declared.Kind.the-variants.{Listing}
+use Rattle.quickref.specs.declared.Hit.{Hit}
+use Rattle.quickref.specs.declared.Hit.the-variants.{At, Nothing}
 use Rattle.seek.specs.Seek.{findIn}
 use Rattle.seek.specs.Count.{costIn}
 use Rattle.seek.specs.declared.CountedHit.{CountedHit}
-use Rattle.seek.specs.declared.Hit.{Hit}
-use Rattle.seek.specs.declared.Hit.the-variants.{At, Nothing}
 use Rattle.book.specs.Book.{limitsOf, chunkBytes}
 use Rattle.book.specs.Search.{findingOf, findingIn}
 use Rattle.book.specs.declared.Finding.{Finding}

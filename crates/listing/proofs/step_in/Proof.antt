@@ -5,8 +5,8 @@ use native.Mathlib.Omega.{arith}
 use denote.Ref.{now}
 use Rattle.entries.specs.declared.Kind.the-variants.{Listing}
 use Rattle.chunk.specs.Chunk.{entryCount}
-use Rattle.seek.specs.Seek.{nthIn}
-use Rattle.seek.specs.declared.Hit.the-variants.{At}
+use Rattle.quickref.specs.Quickref.{nthIn}
+use Rattle.quickref.specs.declared.Hit.the-variants.{At}
 use Rattle.book.specs.Book.{limitsOf, chunkBytes}
 use Rattle.listing.specs.Listing.{cursorAt}
 use Rattle.listing.specs.declared.Step.the-variants.{Refused, Entry}

@@ -5,7 +5,7 @@ use native.Mathlib.Omega.{arith}
 use Prim.Native.Nat.{_+_, _≤_}
 use lib.ListN.{length}
 use denote.Ref.{now}
-use Rattle.seek.specs.declared.Hit.the-variants.{At}
+use Rattle.quickref.specs.declared.Hit.the-variants.{At}
 use Rattle.opening.specs.Passes.{FirstHit}
 use Rattle.opening.proofs.first_name.Statement.{statement}
 use Rattle.opening.proofs.first_name.Tie as tie

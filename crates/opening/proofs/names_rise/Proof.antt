@@ -6,7 +6,7 @@ use Prim.Native.Nat.{_+_, _≤_}
 use lib.ListN.{length}
 use denote.Ref.{now}
 use Rattle.entries.specs.declared.Kind.the-variants.{Listing}
-use Rattle.seek.specs.Seek.{lastIn}
+use Rattle.quickref.specs.Quickref.{lastIn}
 use Rattle.tree.specs.Shape.{lastName}
 use Rattle.book.specs.Book.{limitsOf, chunkBytes, directoryOf, shapeOf}
 use Rattle.opening.proofs.Firsts.{Hits, last-found, last-hit}

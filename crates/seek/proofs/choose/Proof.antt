@@ -15,14 +15,17 @@ use Rattle.entries.specs.declared.Item.the-variants.{Good, Bad}
 use Rattle.entries.proofs.Laws.{name-next, index-broken, index-wide, index-whole}
 use Rattle.entries.specs.declared.Kind.the-variants.{Index}
 use Rattle.chunk.specs.Chunk.{countPlace}
-use Rattle.seek.specs.Seek.{groupAt, groupIn, sizeIn, chooseIn, childOf}
-use Rattle.seek.specs.Count.{halvingsIn, costIn}
+use Rattle.quickref.specs.Quickref.{groupAt}
+use Rattle.quickref.specs.declared.Hit.{Hit}
+use Rattle.quickref.specs.declared.Hit.the-variants.{At, Nothing}
+use Rattle.halving.specs.Halving.{groupIn, sizeIn}
+use Rattle.halving.specs.Halvings.{halvingsIn}
+use Rattle.seek.specs.Seek.{chooseIn, childOf}
+use Rattle.seek.specs.Count.{costIn}
 use Rattle.seek.specs.declared.CountedHit.{CountedHit}
 use Rattle.seek.specs.declared.CountedChild.{CountedChild}
 use Rattle.seek.specs.declared.Child.{Child}
 use Rattle.seek.specs.declared.Child.the-variants.{Below}
-use Rattle.seek.specs.declared.Hit.{Hit}
-use Rattle.seek.specs.declared.Hit.the-variants.{At, Nothing}
 use Rattle.seek.proofs.Counts.{spentIn, spent-next, spent-is, spent-fits}
 use Rattle.seek.proofs.Steps.{chooseFrom, choose-end, choose-unnamed, choose-above, choose-equal, choose-barred, choose-on}
 use Rattle.seek.proofs.choose.Statement.{statement}

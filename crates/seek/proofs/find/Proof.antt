@@ -11,11 +11,14 @@ use Rattle.entries.specs.declared.Item.the-variants.{Good, Bad}
 use Rattle.entries.proofs.Laws.{Inside, item-inside}
 use Rattle.entries.specs.declared.Kind.the-variants.{Listing}
 use Rattle.chunk.specs.Chunk.{countPlace}
-use Rattle.seek.specs.Seek.{groupAt, groupIn, sizeIn, findIn}
-use Rattle.seek.specs.Count.{halvingsIn, costIn}
+use Rattle.quickref.specs.Quickref.{groupAt}
+use Rattle.quickref.specs.declared.Hit.{Hit}
+use Rattle.quickref.specs.declared.Hit.the-variants.{At, Nothing}
+use Rattle.halving.specs.Halving.{groupIn, sizeIn}
+use Rattle.halving.specs.Halvings.{halvingsIn}
+use Rattle.seek.specs.Seek.{findIn}
+use Rattle.seek.specs.Count.{costIn}
 use Rattle.seek.specs.declared.CountedHit.{CountedHit}
-use Rattle.seek.specs.declared.Hit.{Hit}
-use Rattle.seek.specs.declared.Hit.the-variants.{At, Nothing}
 use Rattle.seek.proofs.Counts.{spentIn, spent-next, spent-is, spent-fits}
 use Rattle.seek.proofs.Steps.{findFrom, find-end, find-bad, find-above, find-here, find-on}
 use Rattle.seek.proofs.find.Statement.{statement}

@@ -4,7 +4,7 @@ use mathlib.Core.Bool.{true}
 use denote.Ref.{now}
 use Rattle.fields.proofs.Tests.{held, failed}
 use Rattle.entries.specs.declared.Kind.the-variants.{Listing}
-use Rattle.seek.specs.Seek.{nthIn}
+use Rattle.quickref.specs.Quickref.{nthIn}
 use Rattle.book.specs.Book.{limitsOf, chunkBytes, recordFits}
 use Rattle.listing.specs.declared.Owned.the-variants.{At}
 use Rattle.book.proofs.Checked.{Linked, checked-listing, checked-no-listing}

@@ -2,10 +2,10 @@ use borrow.Author.Needs.{needs}
 use mathlib.Core.Path.{_≡_, refl, sym, _∙_}
 use native.Mathlib.Omega.{arith}
 use denote.Ref.{now}
-use Rattle.seek.specs.Seek.{afterAt}
-use Rattle.seek.proofs.Steps.{after-bad, after-on, after-here}
-use Rattle.seek.proofs.entry_behind.Statement.{statement}
-use Rattle.seek.proofs.entry_behind.Tie as tie
+use Rattle.quickref.specs.Quickref.{afterAt}
+use Rattle.quickref.proofs.Steps.{after-bad, after-on, after-here}
+use Rattle.quickref.proofs.entry_behind.Statement.{statement}
+use Rattle.quickref.proofs.entry_behind.Tie as tie
 
 abbrev Inv-loop : tie.InvT-loop
 Inv-loop c limits kind past from at₀ left₀ at left = afterAt limits kind c left at ≡ afterAt limits kind c past from

@@ -10,12 +10,13 @@ use Rattle.names.specs.Names.{below}
 use Rattle.encint.specs.declared.Number.the-variants.{Value}
 use Rattle.entries.specs.Entry.{nameAt}
 use Rattle.entries.proofs.Laws.{name-next}
-use Rattle.seek.specs.Seek.{groupAt, groupAbove}
-use Rattle.seek.proofs.stands_to.Statement.{statement}
-use Rattle.seek.proofs.stands_to.Tie as tie
+use Rattle.quickref.specs.Quickref.{groupAt}
+use Rattle.halving.specs.Halving.{groupAbove}
+use Rattle.halving.proofs.stands_to.Statement.{statement}
+use Rattle.halving.proofs.stands_to.Tie as tie
 
-group-at-requires : tie.Need-group-at-requires
-group-at-requires c κs = search needs
+group-place-requires : tie.Need-group-place-requires
+group-place-requires c κs = search needs
 
 name-at-requires : tie.Need-name-at-requires
 name-at-requires c κs = search needs
@@ -30,14 +31,14 @@ returns : tie.Need-returns
 unfolding groupAbove
 returns c =
     let r = c .before .before in
-    rw (← r .before .group-at .ensures, ← r .name-at .ensures, c .enum-told .given .1)
+    rw (← r .before .group-place .ensures, ← r .name-at .ensures, c .enum-told .given .1)
 
 -- the name that was read
 read-is : (c : tie.After-known-told) → let g = c .before .before .before .before in let a = g .before .before .before .args in
     nameAt (now (a .c)) (groupAt (a .kind) (now (a .c)) (a .g)) ≡ Value (c .before .n .given .0 .0) (c .before .n .given .0 .1 .0)
 read-is c =
     let r = c .before .before .before in
-    rw (← r .before .group-at .ensures) (sym (r .name-at .ensures) ∙ c .before .n .given .1)
+    rw (← r .before .group-place .ensures) (sym (r .name-at .ensures) ∙ c .before .n .given .1)
 
 inside : (c : tie.After-known-told) → let g = c .before .before .before .before in
     c .before .n .given .0 .1 .0 + c .before .n .given .0 .0 ≤ length (now (g .before .before .before .args .c))
@@ -66,7 +67,7 @@ pub stands-to-spec : {M : Type 1} → statement M
 stands-to-spec =
     tie.close
     (tie.spec
-    group-at-requires
+    group-place-requires
     name-at-requires
     enum-known-n
     enum-told

@@ -8,12 +8,12 @@ use denote.Ref.{now}
 use Rattle.names.specs.Names.{compared}
 use Rattle.chunk.specs.Chunk.{entryCount, spacingOf, countPlace}
 use Rattle.chunk.proofs.Quick.{capped}
-use Rattle.seek.specs.Seek.{groupAt, groupAbove, halved, groupIn, sizeIn}
-use Rattle.seek.specs.Count.{halvings, halvingsIn}
-use Rattle.seek.proofs.Groups.{group-none, capped-group, capped-size}
-use Rattle.seek.proofs.Steps.{counted}
-use Rattle.seek.proofs.group_for.Statement.{statement}
-use Rattle.seek.proofs.group_for.Tie as tie
+use Rattle.quickref.specs.Quickref.{groupAt}
+use Rattle.halving.specs.Halving.{groupAbove, halved, groupIn, sizeIn}
+use Rattle.halving.specs.Halvings.{halvings, halvingsIn}
+use Rattle.halving.proofs.Capped.{group-none, capped-group, capped-size, counted}
+use Rattle.halving.proofs.group_for.Statement.{statement}
+use Rattle.halving.proofs.group_for.Tie as tie
 
 entry-count-requires : tie.Need-entry-count-requires
 entry-count-requires c κs = search needs
@@ -49,21 +49,21 @@ group-of-requires : tie.Need-group-of-requires
 group-of-requires c κs =
     (omega (arith, div-le-self (c .before .before .entry-count .result - 1) (c .spacing .result)), has-count (c .before))
 
-group-at-requires : tie.Need-group-at-requires
-group-at-requires c κs = has-count (c .before .before)
+group-place-requires : tie.Need-group-place-requires
+group-place-requires c κs = has-count (c .before .before)
 
 -- the group is one of the chunk's
 inside : (c : tie.After-group-of) → c .group-of .result .group * c .before .spacing .result ≤ c .before .before .before .entry-count .result - 1
 inside c = le-div-iff-mul-le {k = c .before .spacing .result} (omega (arith, c .before .spacing .ensures)) .0 (c .group-of .ensures .2)
 
 -- it begins at its place, has so many entries, and took so many names
-chosen : (c : tie.After-group-at)
+chosen : (c : tie.After-group-place)
     → let o = c .before in
     let n = o .before .spacing .result in
     let t = o .before .before .before in
     let a = t .before .before .before .args in
     let g = groupIn (a .limits) (a .kind) (now (a .c)) (compared (now (a .name))) in
-    (c .group-at .result ≡ groupAt (a .kind) (now (a .c)) g)
+    (c .group-place .result ≡ groupAt (a .kind) (now (a .c)) g)
     × (min n (t .entry-count .result - o .group-of .result .group * n) ≡ sizeIn (a .limits) (now (a .c)) g)
     × (o .group-of .result .count ≡ halvingsIn (a .limits) (a .kind) (now (a .c)) (compared (now (a .name))))
 unfolding groupIn
@@ -84,7 +84,7 @@ chosen c =
     ap (λ (i : ℕ). h * i) (p .ensures) ∙ capped-group d h (t .entry-count .result - 1) (omega arith) (rw (← p .ensures) (o .group-of .ensures .2)) in
     let s : min (p .result) (t .entry-count .result - h * p .result) ≡ min (spacingOf d) (t .entry-count .result - h * p .result) =
     ap (λ (i : ℕ). min i (t .entry-count .result - h * p .result)) (p .ensures) ∙ capped-size d (t .entry-count .result - h * p .result) (omega arith) in (
-      c .group-at .ensures ∙ ap (groupAt (a .kind) (now (a .c))) g,
+      c .group-place .ensures ∙ ap (groupAt (a .kind) (now (a .c))) g,
       s ∙ rw (m, total, g) refl,
       o .group-of .ensures .1 ∙ ap (λ (i : ℕ). halvings above i 0 i) q,
     )
@@ -113,7 +113,7 @@ group-for-spec =
     sub-group-of
     div-group-of
     group-of-requires
-    group-at-requires
+    group-place-requires
     mul-smaller
     sub-smaller
     smaller-requires

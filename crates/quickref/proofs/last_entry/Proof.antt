@@ -2,9 +2,9 @@ use borrow.Author.Needs.{needs}
 use borrow.Author.Tests.{le-ltb}
 use native.Mathlib.Omega.{arith}
 use Prim.Native.Nat.{_-_}
-use Rattle.seek.specs.Seek.{nthIn}
-use Rattle.seek.proofs.last_entry.Statement.{statement}
-use Rattle.seek.proofs.last_entry.Tie as tie
+use Rattle.quickref.specs.Quickref.{nthIn}
+use Rattle.quickref.proofs.last_entry.Statement.{statement}
+use Rattle.quickref.proofs.last_entry.Tie as tie
 
 entry-count-requires : tie.Need-entry-count-requires
 entry-count-requires c κs = search needs

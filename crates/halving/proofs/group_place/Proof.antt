@@ -6,9 +6,9 @@ use lib.ListN.{length, getD}
 use denote.Ref.{now}
 use Rattle.fields.specs.Le.{le}
 use Rattle.chunk.proofs.Frame.{head-small}
-use Rattle.seek.specs.Seek.{groupAt}
-use Rattle.seek.proofs.group_at.Statement.{statement}
-use Rattle.seek.proofs.group_at.Tie as tie
+use Rattle.quickref.specs.Quickref.{groupAt}
+use Rattle.halving.proofs.group_place.Statement.{statement}
+use Rattle.halving.proofs.group_place.Tie as tie
 
 first-place-requires : tie.Need-first-place-requires
 first-place-requires c κs = search needs
@@ -62,8 +62,8 @@ returns-2 c =
     let q = c .before .before in
     rw (ne-eqb _ _ (q .before .if1 .left), ← q .quick-place .ensures, ← q .before .before .first-place .ensures) (omega arith)
 
-pub group-at-spec : {M : Type 1} → statement M
-group-at-spec =
+pub group-place-spec : {M : Type 1} → statement M
+group-place-spec =
     tie.close
     (tie.spec
     first-place-requires

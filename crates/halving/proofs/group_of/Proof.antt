@@ -6,11 +6,11 @@ use native.Mathlib.Omega.{arith}
 use denote.Ref.{now}
 use Rattle.names.specs.Order.{isLess}
 use Rattle.names.specs.Names.{compared}
-use Rattle.seek.specs.Seek.{groupAbove, middle, halved}
-use Rattle.seek.specs.Count.{halvings}
-use Rattle.seek.proofs.Halving.{halved-one, halved-lower, halved-upper, halvings-one, halvings-lower, halvings-upper, halvings-fuel}
-use Rattle.seek.proofs.group_of.Statement.{statement}
-use Rattle.seek.proofs.group_of.Tie as tie
+use Rattle.halving.specs.Halving.{groupAbove, middle, halved}
+use Rattle.halving.specs.Halvings.{halvings}
+use Rattle.halving.proofs.Halving.{halved-one, halved-lower, halved-upper, halvings-one, halvings-lower, halvings-upper, halvings-fuel}
+use Rattle.halving.proofs.group_of.Statement.{statement}
+use Rattle.halving.proofs.group_of.Tie as tie
 
 -- groups lo to hi are left after some turns, and halving them i times more is enough
 abbrev Left : (ℕ → Bool) → ℕ → ℕ → ℕ → ℕ → Type 0

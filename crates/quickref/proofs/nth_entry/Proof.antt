@@ -1,12 +1,10 @@
 use borrow.Author.Needs.{needs}
 use borrow.Author.Tests.{lt-ltb, le-ltb}
 use native.Mathlib.Omega.{arith}
-use denote.Ref.{now}
 use Rattle.chunk.proofs.Quick.{capped}
-use Rattle.seek.specs.Seek.{nthIn}
-use Rattle.seek.proofs.Steps.{counted}
-use Rattle.seek.proofs.nth_entry.Statement.{statement}
-use Rattle.seek.proofs.nth_entry.Tie as tie
+use Rattle.quickref.specs.Quickref.{nthIn}
+use Rattle.quickref.proofs.nth_entry.Statement.{statement}
+use Rattle.quickref.proofs.nth_entry.Tie as tie
 
 entry-count-requires : tie.Need-entry-count-requires
 entry-count-requires c κs = search needs
@@ -30,9 +28,7 @@ div-group-at : tie.Need-div-group-at
 div-group-at c = search needs
 
 group-at-requires : tie.Need-group-at-requires
-group-at-requires c κs =
-    let t = c .before in
-    counted (now (t .before .before .before .args .c)) (omega (arith, t .before .entry-count .ensures, t .if1 .left))
+group-at-requires c κs = search needs
 
 entry-behind-requires : tie.Need-entry-behind-requires
 entry-behind-requires c κs = search needs

@@ -10,9 +10,9 @@ use native.Mathlib.Omega.{arith}
 use native.Mathlib.Decide.{decLt}
 use native.Mathlib.Nat.{pow-suc}
 use borrow.Author.Tests.{lt-ltb, le-ltb}
-use Rattle.seek.specs.Seek.{middle, halved}
-use Rattle.seek.specs.Count.{halvings}
-use Rattle.seek.proofs.Steps.{some-left}
+use Rattle.quickref.proofs.Steps.{some-left}
+use Rattle.halving.specs.Halving.{middle, halved}
+use Rattle.halving.specs.Halvings.{halvings}
 
 module _ (above : ℕ → Bool) where
   -- ---- one turn
