@@ -9,7 +9,7 @@ use Rattle.fields.specs.Part.{partOf}
 use Rattle.fields.proofs.Parts.{part-outside}
 use Rattle.header.specs.declared.Record.{Record}
 use Rattle.book.specs.declared.Report.{Report}
-use Rattle.listing.specs.Listing.{contentPart}
+use Rattle.content.specs.Content.{contentPart}
 
 module _ (s : List ℕ) (book : Record) (x : Report) where
   pub content-zero : x .section ≡ 0 → contentPart s book x ≡ partOf s (book .content + x .offset) (x .size)

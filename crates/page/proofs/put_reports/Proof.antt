@@ -9,10 +9,10 @@ use Rattle.entries.specs.declared.Item.the-variants.{Good}
 use Rattle.entries.specs.declared.Kind.the-variants.{Listing}
 use Rattle.chunk.specs.Chunk.{entryCount}
 use Rattle.book.specs.Book.{limitsOf, chunkBytes}
-use Rattle.listing.specs.Listing.{fiveOf}
-use Rattle.listing.proofs.Writing.{Left, left-start, left-there, left-turn, left-end}
-use Rattle.listing.proofs.put_reports.Statement.{statement}
-use Rattle.listing.proofs.put_reports.Tie as tie
+use Rattle.page.specs.Page.{fiveOf}
+use Rattle.page.proofs.Writing.{Left, left-start, left-there, left-turn, left-end}
+use Rattle.page.proofs.put_reports.Statement.{statement}
+use Rattle.page.proofs.put_reports.Tie as tie
 
 abbrev Inv-loop : tie.InvT-loop
 Inv-loop file book chunk out₀ c limits total at₀ i₀ out at i = Left file book chunk out₀ out at i

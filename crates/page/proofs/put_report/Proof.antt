@@ -1,9 +1,9 @@
 use borrow.Author.Needs.{needs}
 use lib.ListN.{length-set}
 use denote.Ref.{now}
-use Rattle.listing.proofs.Writing.{five-stores}
-use Rattle.listing.proofs.put_report.Statement.{statement}
-use Rattle.listing.proofs.put_report.Tie as tie
+use Rattle.page.proofs.Writing.{five-stores}
+use Rattle.page.proofs.put_report.Statement.{statement}
+use Rattle.page.proofs.put_report.Tie as tie
 
 mul-out : tie.Need-mul-out
 mul-out c = search needs

@@ -13,9 +13,10 @@ use Rattle.header.specs.declared.Record.{Record}
 use Rattle.tree.specs.Shape.{nextOf, listingChunk}
 use Rattle.tree.proofs.Chunks.{listing-chunk}
 use Rattle.book.specs.Book.{chunkBytes, directoryOf, shapeOf, recordFits}
-use Rattle.listing.specs.Listing.{numbersOf, reportsIn, canList, hasRoom, pageOf, pageIn}
-use Rattle.listing.specs.declared.Page.{Page}
-use Rattle.listing.specs.declared.Page.the-variants.{Entries, Short, Refused}
+use Rattle.page.specs.Page.{numbersOf, hasRoom, pageOf, pageIn}
+use Rattle.listing.specs.Listing.{reportsIn, canList}
+use Rattle.page.specs.declared.Page.{Page}
+use Rattle.page.specs.declared.Page.the-variants.{Entries, Short, Refused}
 use Rattle.book.proofs.Read.{entries-length}
 
 module _ (s : List ℕ) (book : Record) (c : ℕ) (t : List ℕ) where

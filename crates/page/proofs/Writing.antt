@@ -16,7 +16,8 @@ use Rattle.header.specs.declared.Record.{Record}
 use Rattle.tree.specs.Shape.{isListing}
 use Rattle.book.specs.Book.{limitsOf, chunkBytes, directoryOf, reportOf, reportAt}
 use Rattle.book.specs.declared.Report.{Report}
-use Rattle.listing.specs.Listing.{fiveOf, numbersOf, reportsIn}
+use Rattle.page.specs.Page.{fiveOf, numbersOf}
+use Rattle.listing.specs.Listing.{reportsIn}
 use Rattle.book.proofs.Read.{left-more, entries-left, entries-length, read-reported}
 
 -- five stores one behind another

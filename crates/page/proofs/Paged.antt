@@ -13,10 +13,11 @@ use Rattle.chunk.specs.Chunk.{entriesIn}
 use Rattle.header.specs.declared.Record.{Record}
 use Rattle.tree.specs.Shape.{nextOf}
 use Rattle.book.specs.Book.{directoryOf, recordFits, reportOf}
-use Rattle.listing.specs.Listing.{cursorAt, numbersOf, reportsIn, canList, hasRoom, pageOf, pageIn}
-use Rattle.listing.specs.Whole.{stepsFrom, PageSteps}
-use Rattle.listing.specs.declared.Page.the-variants.{Entries, Short, Refused}
+use Rattle.listing.specs.Listing.{cursorAt, reportsIn, canList}
+use Rattle.page.specs.Page.{numbersOf, hasRoom, pageOf, pageIn, PageSteps}
+use Rattle.listing.specs.Whole.{stepsFrom}
+use Rattle.page.specs.declared.Page.the-variants.{Entries, Short, Refused}
 use Rattle.listing.proofs.Run.{run-steps, run-chunk, cursor-inside}
 
 -- what a page with entries tells
 answered : (a b : Bool) (k m n next : ℕ) → cond a (cond b (Entries k m) Short) (Refused (refusalOf 17)) ≡ Entries n next

@@ -2,9 +2,9 @@ use mathlib.Core.Path.{sym, _∙_}
 use native.Mathlib.Omega.{arith}
 use denote.Ref.{now}
 use borrow.Author.Needs.{needs}
-use Rattle.listing.proofs.Contents.{content-zero, content-other, content-outside}
-use Rattle.listing.proofs.content_part.Statement.{statement}
-use Rattle.listing.proofs.content_part.Tie as tie
+use Rattle.content.proofs.Contents.{content-zero, content-other, content-outside}
+use Rattle.content.proofs.content_part.Statement.{statement}
+use Rattle.content.proofs.content_part.Tie as tie
 
 sub-result : tie.Need-sub-result
 sub-result c = search needs

@@ -6,11 +6,11 @@ use denote.Ref.{now}
 use Rattle.fields.proofs.Tests.{held, failed}
 use Rattle.chunk.specs.Chunk.{entryCount}
 use Rattle.book.specs.Book.{chunkBytes, recordFits}
-use Rattle.listing.specs.declared.Page.the-variants.{Refused}
+use Rattle.page.specs.declared.Page.the-variants.{Refused}
 use Rattle.book.proofs.Checked.{Linked, checked-listing, checked-index, checked-refused}
-use Rattle.listing.proofs.Paging.{page-unfit, page-other, page-short, page-done}
-use Rattle.listing.proofs.chunk_page.Statement.{statement}
-use Rattle.listing.proofs.chunk_page.Tie as tie
+use Rattle.page.proofs.Paging.{page-unfit, page-other, page-short, page-done}
+use Rattle.page.proofs.chunk_page.Statement.{statement}
+use Rattle.page.proofs.chunk_page.Tie as tie
 
 fits-is : (c : tie.Else1) → let a = c .before .before .before .before .args in recordFits (now (a .file)) (a .book) ≡ true
 fits-is c = held (c .before .record-fits .ensures) (c .if1 .left)
