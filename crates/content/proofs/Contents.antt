@@ -8,7 +8,7 @@ use borrow.Author.Tests.{eq-eqb, ne-eqb}
 use Rattle.fields.specs.Part.{partOf}
 use Rattle.fields.proofs.Parts.{part-outside}
 use Rattle.header.specs.declared.Record.{Record}
-use Rattle.book.specs.declared.Report.{Report}
+use Rattle.report.specs.declared.Report.{Report}
 use Rattle.content.specs.Content.{contentPart}
 
 module _ (s : List ℕ) (book : Record) (x : Report) where

@@ -5,7 +5,7 @@ use mathlib.Core.List.{List, []}
 use lib.Dec.{eqb}
 use Rattle.fields.specs.Part.{partOf}
 use Rattle.header.specs.declared.Record.{Record}
-use Rattle.book.specs.declared.Report.{Report}
+use Rattle.report.specs.declared.Report.{Report}
 
 -- the bytes of an entry of section 0 start at content start + offset (E8); none for another section, and where they do not lie inside the file (K15)
 unfoldable pub contentPart : List ℕ → Record → Report → List ℕ

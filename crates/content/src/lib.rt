@@ -2,8 +2,8 @@
 ghost use mathlib.Core.Path.{_≡_};
 ghost use Rattle.fields.specs.Part.{partOf};
 ghost use Rattle.content.specs.Content.{contentPart};
-use book::Report;
 use header::Record;
+use report::Report;
 
 // The bytes of the lent file itself from a place on; the empty part where they do not lie inside it.
 pub fn part(file: &[u8], place: u64, length: u64) -> &[u8]

@@ -9,8 +9,9 @@ use Rattle.chunk.specs.Chunk.{Parsed, entriesIn}
 use Rattle.seek.specs.Seek.{Sought, absent, found, nth}
 use Rattle.header.specs.declared.Record.{Record}
 use Rattle.tree.specs.Shape.{nextOf, listingChunk}
-use Rattle.book.specs.Book.{directoryOf, shapeOf, recordFits, reportOf, ownOf, OwnBytes}
-use Rattle.book.specs.declared.Report.{Report}
+use Rattle.book.specs.Book.{directoryOf, shapeOf, recordFits}
+use Rattle.report.specs.Report.{reportOf, ownOf, OwnBytes}
+use Rattle.report.specs.declared.Report.{Report}
 use Rattle.listing.specs.declared.Cursor.{Cursor}
 use Rattle.listing.specs.declared.Step.{Step}
 use Rattle.listing.specs.declared.Step.the-variants.{End}

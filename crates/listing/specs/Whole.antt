@@ -8,7 +8,7 @@ use Rattle.header.specs.declared.Record.{Record}
 use Rattle.tree.specs.Chain.{chain}
 use Rattle.tree.specs.Exact.{ChainListed}
 use Rattle.book.specs.Book.{directoryOf, shapeOf}
-use Rattle.book.specs.declared.Report.{Report}
+use Rattle.report.specs.declared.Report.{Report}
 use Rattle.listing.specs.Listing.{startOf, stepped, reportsIn}
 use Rattle.listing.specs.declared.Cursor.{Cursor}
 use Rattle.listing.specs.declared.Step.{Step}

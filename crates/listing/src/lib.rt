@@ -4,12 +4,12 @@ ghost use mathlib.Core.Bool.{true};
 ghost use Rattle.tree.specs.Shape.{isListing, nextOf};
 ghost use Rattle.book.specs.Book.{directoryOf};
 ghost use Rattle.listing.specs.Listing.{startOf, entryStep, stepped, ownedAt, OwnBeside};
-use book::Own;
-use book::Report;
 use chunk::Chunk;
 use entries::Kind;
 use header::Record;
 use refusals::Refusal;
+use report::Own;
+use report::Report;
 use seek::Hit;
 
 // The chunk and the number of the entry to be reported next.
@@ -46,7 +46,7 @@ fn step_in(file: &[u8], book: Record, at: Cursor, next: u32) -> Step
     ) else {
         return Step::Refused(refusals::refuse(17));
     };
-    let r = book::report_of(file, book, at.chunk, e);
+    let r = report::report_of(file, book, at.chunk, e);
     let total = chunk::entry_count(c) as u64;
     let after = at.entry + 1;
     if after < total {
@@ -108,7 +108,7 @@ impl Cursor {
             Kind::Listing,
             self.entry as usize,
         ) {
-            Hit::At(e) => Owned::At(book::own_of(file, book, self.chunk, e)),
+            Hit::At(e) => Owned::At(report::own_of(file, book, self.chunk, e)),
             Hit::Nothing => Owned::Nothing,
         }
     }

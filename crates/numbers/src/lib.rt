@@ -4,16 +4,16 @@ ghost use mathlib.Core.Path.{_≡_};
 ghost use Rattle.page.specs.Page.{fiveOf};
 ghost use Rattle.numbers.specs.Numbers.{recordIn, recordNumbers, refusalCode, openCode, openRecord, lookupCode, lookupNumbers, replyCode, replyNumbers, batchCode, cursorIn, cursorNumbers, stepCode, stepCursor, stepNumbers, ownCode, ownNumbers, pageCode, pageNumbers, writeCode, writeNumbers};
 use batch::Batched;
-use book::Report;
 use header::Record;
 use listing::Cursor;
 use listing::Owned;
-use page::Page;
 use listing::Step;
 use lookup::Answer;
 use lookup::Reply;
 use opening::Opened;
+use page::Page;
 use refusals::Refusal;
+use report::Report;
 use writer::Written;
 
 // The numbers of a record; `HODS_RECORD` in include/hodsplinter.h is how many there are.

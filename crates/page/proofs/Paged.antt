@@ -12,7 +12,8 @@ use Rattle.refusals.specs.Refusals.{refusalOf}
 use Rattle.chunk.specs.Chunk.{entriesIn}
 use Rattle.header.specs.declared.Record.{Record}
 use Rattle.tree.specs.Shape.{nextOf}
-use Rattle.book.specs.Book.{directoryOf, recordFits, reportOf}
+use Rattle.book.specs.Book.{directoryOf, recordFits}
+use Rattle.report.specs.Report.{reportOf}
 use Rattle.listing.specs.Listing.{cursorAt, reportsIn, canList}
 use Rattle.page.specs.Page.{numbersOf, hasRoom, pageOf, pageIn, PageSteps}
 use Rattle.listing.specs.Whole.{stepsFrom}

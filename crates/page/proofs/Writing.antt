@@ -14,11 +14,13 @@ use Rattle.entries.specs.declared.Kind.the-variants.{Listing}
 use Rattle.chunk.specs.Chunk.{Entry, all, entriesAt, firstPlace, entryCount, tailLength, entriesIn}
 use Rattle.header.specs.declared.Record.{Record}
 use Rattle.tree.specs.Shape.{isListing}
-use Rattle.book.specs.Book.{limitsOf, chunkBytes, directoryOf, reportOf, reportAt}
-use Rattle.book.specs.declared.Report.{Report}
+use Rattle.book.specs.Book.{limitsOf, chunkBytes, directoryOf}
+use Rattle.report.specs.Report.{reportOf, reportAt}
+use Rattle.report.specs.declared.Report.{Report}
 use Rattle.page.specs.Page.{fiveOf, numbersOf}
 use Rattle.listing.specs.Listing.{reportsIn}
-use Rattle.book.proofs.Read.{left-more, entries-left, entries-length, read-reported}
+use Rattle.book.proofs.Read.{left-more, entries-left, entries-length}
+use Rattle.report.proofs.Reported.{read-reported}
 
 -- five stores one behind another
 pub five-stores : (t : List ℕ) (at a b c d e : ℕ) → set (set (set (set (set t at a) (at + 1) b) (at + 2) c) (at + 3) d) (at + 4) e ≡ sets t at (a ∷ b ∷ c ∷ d ∷ e ∷ [])

@@ -11,7 +11,7 @@ use Rattle.chunk.specs.Chunk.{entriesIn}
 use Rattle.header.specs.declared.Record.{Record}
 use Rattle.tree.specs.Shape.{nextOf}
 use Rattle.book.specs.Book.{directoryOf}
-use Rattle.book.specs.declared.Report.{Report}
+use Rattle.report.specs.declared.Report.{Report}
 use Rattle.listing.specs.Listing.{canList, reportsIn, cursorAt}
 use Rattle.listing.specs.Whole.{stepsFrom, cursorAfter}
 use Rattle.page.specs.declared.Page.{Page}

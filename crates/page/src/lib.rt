@@ -9,12 +9,12 @@ ghost use Rattle.tree.specs.Shape.{isListing};
 ghost use Rattle.book.specs.Book.{chunkBytes, directoryOf};
 ghost use Rattle.listing.specs.Listing.{reportsIn};
 ghost use Rattle.page.specs.Page.{fiveOf, numbersOf, pageOf, pageIn};
-use book::Report;
 use chunk::Chunk;
 use entries::Item;
 use entries::Kind;
 use header::Record;
 use refusals::Refusal;
+use report::Report;
 
 // What a page gives: how many entries it has and the chunk that follows; or that the lent slice is too short; or a refusal.
 pub enum Page {
@@ -50,7 +50,7 @@ fn put_reports(file: &[u8], book: Record, chunk: u64, out: &mut [u64])
         let Item::Good(e) = entries::listing_at(c, at, limits.content) else {
             return;
         };
-        put_report(out, 5 * i, book::report_of(file, book, chunk, e));
+        put_report(out, 5 * i, report::report_of(file, book, chunk, e));
         at = e.next;
         i += 1;
     }

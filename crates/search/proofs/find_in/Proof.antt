@@ -8,12 +8,12 @@ use Rattle.seek.specs.Count.{costIn}
 use Rattle.seek.specs.declared.CountedHit.{CountedHit}
 use Rattle.seek.specs.declared.Hit.{Hit}
 use Rattle.seek.specs.declared.Hit.the-variants.{At, Nothing}
 use Rattle.book.specs.Book.{limitsOf, chunkBytes}
-use Rattle.book.specs.Search.{findingOf, findingIn}
-use Rattle.book.specs.declared.Finding.{Finding}
-use Rattle.book.specs.declared.Report.{Report}
-use Rattle.book.proofs.find_in.Statement.{statement}
-use Rattle.book.proofs.find_in.Tie as tie
+use Rattle.search.specs.Search.{findingOf, findingIn}
+use Rattle.search.specs.declared.Finding.{Finding}
+use Rattle.report.specs.declared.Report.{Report}
+use Rattle.search.proofs.find_in.Statement.{statement}
+use Rattle.search.proofs.find_in.Tie as tie
 
 -- what the search finds
 found-is : (c : tie.After-find) → let a = c .before .before .before .before .before .args in

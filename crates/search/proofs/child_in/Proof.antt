@@ -1,7 +1,7 @@
 use borrow.Author.Needs.{needs}
-use Rattle.book.specs.Search.{childIn}
-use Rattle.book.proofs.child_in.Statement.{statement}
-use Rattle.book.proofs.child_in.Tie as tie
+use Rattle.search.specs.Search.{childIn}
+use Rattle.search.proofs.child_in.Statement.{statement}
+use Rattle.search.proofs.child_in.Tie as tie
 
 chunk-bytes-requires : tie.Need-chunk-bytes-requires
 chunk-bytes-requires c κs = search needs

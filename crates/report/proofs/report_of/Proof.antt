@@ -1,7 +1,7 @@
 use borrow.Author.Needs.{needs}
-use Rattle.book.specs.Book.{reportAt}
-use Rattle.book.proofs.report_of.Statement.{statement}
-use Rattle.book.proofs.report_of.Tie as tie
+use Rattle.report.specs.Report.{reportAt}
+use Rattle.report.proofs.report_of.Statement.{statement}
+use Rattle.report.proofs.report_of.Tie as tie
 
 place-in-requires : tie.Need-place-in-requires
 place-in-requires c κs = search needs

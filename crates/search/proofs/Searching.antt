@@ -28,13 +28,15 @@ use Rattle.header.specs.declared.Record.{Record}
 use Rattle.tree.specs.Shape.{nextOf, listingChunk, indexChunk}
 use Rattle.tree.specs.Descent.{childFor}
 use Rattle.tree.proofs.Chunks.{listing-chunk, index-chunk}
-use Rattle.book.specs.Book.{limitsOf, chunkPlace, chunkBytes, directoryOf, shapeOf, reportOf, reportAt}
-use Rattle.book.specs.Search.{findingOf, findingIn, costAt, searchOf, searchIn, Stands}
-use Rattle.book.specs.declared.Finding.{Finding}
-use Rattle.book.specs.declared.Report.{Report}
-use Rattle.book.specs.declared.Search.{Search}
-use Rattle.book.specs.declared.Search.the-variants.{Found, Next, Barred}
-use Rattle.book.proofs.Laws.{chunk-inside, chunk-small, chunk-some, report-entry}
+use Rattle.book.specs.Book.{limitsOf, chunkPlace, chunkBytes, directoryOf, shapeOf}
+use Rattle.report.specs.Report.{reportOf, reportAt}
+use Rattle.search.specs.Search.{findingOf, findingIn, costAt, searchOf, searchIn, Stands}
+use Rattle.search.specs.declared.Finding.{Finding}
+use Rattle.report.specs.declared.Report.{Report}
+use Rattle.search.specs.declared.Search.{Search}
+use Rattle.search.specs.declared.Search.the-variants.{Found, Next, Barred}
+use Rattle.book.proofs.Laws.{chunk-inside, chunk-small, chunk-some}
+use Rattle.report.proofs.Reported.{report-entry}
 
 module _ (s : List ℕ) (book : Record) (name : List ℕ) (c : ℕ) where
   -- ---- any bytes: a name is found only in a chunk that has its bytes

@@ -2,9 +2,9 @@ use borrow.Author.Needs.{needs}
 use borrow.Author.Tests.{le-leb, lt-leb}
 use Prim.Native.Nat.{_+_}
 use native.Mathlib.Omega.{arith}
 use Rattle.book.specs.Book.{chunkPlace}
-use Rattle.book.proofs.place_in.Statement.{statement}
-use Rattle.book.proofs.place_in.Tie as tie
+use Rattle.report.proofs.place_in.Statement.{statement}
+use Rattle.report.proofs.place_in.Tie as tie
 
 returns : tie.Need-returns
 returns c = let a = c .before .args in rw (lt-leb (chunkPlace (a .book) (a .c) + a .start) (a .len) (omega arith))

@@ -1,7 +1,7 @@
 use borrow.Author.Needs.{needs}
-use Rattle.book.specs.Book.{ownAt}
-use Rattle.book.proofs.own_of.Statement.{statement}
-use Rattle.book.proofs.own_of.Tie as tie
+use Rattle.report.specs.Report.{ownAt}
+use Rattle.report.proofs.own_of.Statement.{statement}
+use Rattle.report.proofs.own_of.Tie as tie
 
 place-in-requires : tie.Need-place-in-requires
 place-in-requires c κs = search needs

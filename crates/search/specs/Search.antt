@@ -16,11 +16,12 @@ use Rattle.seek.specs.declared.Hit.{Hit}
 use Rattle.seek.specs.declared.Hit.the-variants.{At}
 use Rattle.header.specs.declared.Record.{Record}
 use Rattle.tree.specs.Shape.{nextOf, listingChunk}
-use Rattle.book.specs.Book.{limitsOf, chunkBytes, directoryOf, shapeOf, reportOf, reportAt}
-use Rattle.book.specs.declared.Finding.{Finding}
-use Rattle.book.specs.declared.Report.{Report}
-use Rattle.book.specs.declared.Search.{Search}
-use Rattle.book.specs.declared.Search.the-variants.{Found, Next, Barred}
+use Rattle.book.specs.Book.{limitsOf, chunkBytes, directoryOf, shapeOf}
+use Rattle.report.specs.Report.{reportOf, reportAt}
+use Rattle.search.specs.declared.Finding.{Finding}
+use Rattle.report.specs.declared.Report.{Report}
+use Rattle.search.specs.declared.Search.{Search}
+use Rattle.search.specs.declared.Search.the-variants.{Found, Next, Barred}
 
 -- ---- in the bytes of chunk c, checked or not (K22)
 

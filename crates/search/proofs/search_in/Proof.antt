@@ -1,10 +1,10 @@
 use mathlib.Core.Path.{sym, _∙_}
 use denote.Ref.{now}
 use borrow.Author.Needs.{needs}
 use Rattle.book.proofs.Checked.{Linked, checked-listing, checked-no-listing}
-use Rattle.book.proofs.Searching.{search-found, search-next, search-barred}
-use Rattle.book.proofs.search_in.Statement.{statement}
-use Rattle.book.proofs.search_in.Tie as tie
+use Rattle.search.proofs.Searching.{search-found, search-next, search-barred}
+use Rattle.search.proofs.search_in.Statement.{statement}
+use Rattle.search.proofs.search_in.Tie as tie
 
 -- the chunk is a listing chunk, with the next that the code has
 linked-is : (c : tie.After-known-told) → let a = c .before .before .before .before .before .before .args in
