@@ -1,5 +1,4 @@
--- A chunk that has its 4,096 bytes lies inside the file, and what was read in it is reported as its entry says; what a
--- record that can be asked has.
+-- A chunk that has its 4,096 bytes lies inside the file; what a record that can be asked has.
 use mathlib.Core.Path.{_≡_, refl, sym, ap, _∙_}
 use mathlib.Core.Bool.{true, _&&_}
 use mathlib.Core.List.{List}
@@ -12,13 +11,12 @@ use borrow.Author.Tests.{le-leb, leb-true}
 use Rattle.fields.proofs.Tests.{and-both}
 use Rattle.fields.specs.Part.{part, partOf}
 use Rattle.fields.proofs.Parts.{length-part, part-inside, part-outside, part-small, part-within}
-use Rattle.entries.specs.declared.Place.{Place}
 use Rattle.entries.specs.declared.Kind.{Kind}
-use Rattle.chunk.specs.Chunk.{entryOf, isKind}
+use Rattle.chunk.specs.Chunk.{isKind}
 use Rattle.chunk.proofs.Accepted.{chunk-accepted}
 use Rattle.directory_header.specs.DirectoryHeader.{within}
 use Rattle.header.specs.declared.Record.{Record}
-use Rattle.book.specs.Book.{limitsOf, chunkPlace, chunkBytes, directoryOf, recordFits, reportOf, reportAt, ownOf, ownAt}
+use Rattle.book.specs.Book.{limitsOf, chunkPlace, chunkBytes, directoryOf, recordFits}
 
 module _ (s : List ℕ) (r : Record) (c : ℕ) where
   pub chunk-inside : length (chunkBytes s r c) ≡ 4096 → chunkPlace r c + 4096 ≤ length s
@@ -42,19 +40,6 @@ module _ (s : List ℕ) (r : Record) (c : ℕ) where
   pub chunk-whole : (k : Kind) → isKind k (directoryOf s r c) ≡ true → length (chunkBytes s r c) ≡ 4096
   unfolding directoryOf
   chunk-whole k h = chunk-accepted (limitsOf s r) k (chunkBytes s r c) h .size
-
-  pub report-entry : (p : Place) → length (chunkBytes s r c) ≡ 4096 → p .start + p .len ≤ 4096 → reportAt s r c p ≡ reportOf r c (entryOf (chunkBytes s r c) p)
-  unfolding reportAt reportOf
-  report-entry p e h =
-      let i = chunk-inside e in
-      let n = length-part (chunkBytes s r c) (p .start) (p .len) (omega arith) in
-      rw (le-leb (chunkPlace r c + p .start) (length s) (omega arith), n)
-
-  pub own-entry : (p : Place) → length (chunkBytes s r c) ≡ 4096 → p .at ≤ 4096 → ownAt s r c p ≡ ownOf r c (entryOf (chunkBytes s r c) p)
-  unfolding ownAt ownOf
-  own-entry p e h =
-      let i = chunk-inside e in
-      rw (le-leb (chunkPlace r c + p .at) (length s) (omega arith))
 
   -- a part of a chunk is that part of the file
   pub chunk-part : length (chunkBytes s r c) ≡ 4096 → (at n : ℕ) → at + n ≤ 4096 → partOf s (chunkPlace r c + at) n ≡ part (chunkBytes s r c) at n

@@ -1,25 +1,19 @@
 -- A file as a directory: where its chunks stand, and what they mean, by the numbers of a record. The record may be made up; a chunk that does
 -- not lie wholly inside the file has no bytes, and so is no chunk (FORMAT D19, F16, K2, K13).
 use Prim.Native.Nat.{ℕ, _+_, _-_, _*_}
-use mathlib.Core.Path.{_≡_}
 use mathlib.Core.Bool.{Bool, cond, _&&_}
 use mathlib.Core.List.{List}
 use lib.ListN.{length}
 use lib.Dec.{ltb, leb}
 use Rattle.fields.specs.Part.{partOf}
-use Rattle.encint.specs.Encint.{encoded}
-use Rattle.entries.specs.Padded.{PaddedEntry}
 use Rattle.entries.specs.declared.Limits.{Limits}
-use Rattle.entries.specs.declared.Place.{Place}
-use Rattle.chunk.specs.Chunk.{Entry, Parsed, parsed}
+use Rattle.chunk.specs.Chunk.{Parsed, parsed}
 use Rattle.chunk.specs.Answer.{chunkOf}
 use Rattle.chunk.specs.declared.Chunk.{Chunk}
 use Rattle.chunk.specs.declared.Chunk.the-variants.{Refused}
 use Rattle.directory_header.specs.DirectoryHeader.{within}
 use Rattle.header.specs.declared.Record.{Record}
 use Rattle.tree.specs.Shape.{Shape}
-use Rattle.book.specs.declared.Report.{Report}
-use Rattle.book.specs.declared.Own.{Own}
 
 -- what the chunks are held to
 unfoldable pub limitsOf : List ℕ → Record → Limits
@@ -48,33 +42,3 @@ recordFits s r = leb (r .density) 7 && (within 1 5 (r .depth) && (within 1 4096 
 -- what chunk number c leads to: a chunk below the count, or refusal 17 (K13)
 unfoldable pub checkedChunk : List ℕ → Record → ℕ → Chunk
 checkedChunk s r c = cond (ltb c (r .count)) (chunkOf (directoryOf s r c)) (Refused 17)
-
--- the five numbers of an entry of chunk c (K6): its name's place in the file and length; section, offset, length
-unfoldable pub reportOf : Record → ℕ → Entry → Report
-reportOf r c e =
-    record { place = chunkPlace r c + e .start; length = length (e .name); section = e .section; offset = e .offset; size = e .size }
-
--- the same of what was read at a place, with an answer for any chunk number and place: 0 for a name's place that is not inside the file
-unfoldable pub reportAt : List ℕ → Record → ℕ → Place → Report
-reportAt s r c e =
-    record {
-      place = cond (leb (chunkPlace r c + e .start) (length s)) (chunkPlace r c + e .start) 0;
-      length = e .len;
-      section = e .section;
-      offset = e .offset;
-      size = e .size;
-    }
-
--- the own bytes of an entry of chunk c, as stored: their place in the file, and how many there are
-unfoldable pub ownOf : Record → ℕ → Entry → Own
-ownOf r c e = record { place = chunkPlace r c + e .at; length = e .next - e .at }
-
--- own bytes beside the numbers that are reported of the entry: its name, and around it those numbers, each in its short form behind bytes 80 or none (K25, N4)
-pub record OwnBytes (s : List ℕ) (r : Report) (o : Own) : Type 0 where
-  pub entry : PaddedEntry (partOf s (o .place) (o .length)) (partOf s (r .place) (r .length)) (r .section) (r .offset) (r .size)
-  pub name : r .place ≡ o .place + (entry .ahead + length (encoded (r .length)))
-
--- the own bytes of what was read at a place, 0 for a place that is not inside the file
-unfoldable pub ownAt : List ℕ → Record → ℕ → Place → Own
-ownAt s r c e =
-    record { place = cond (leb (chunkPlace r c + e .at) (length s)) (chunkPlace r c + e .at) 0; length = e .next - e .at }

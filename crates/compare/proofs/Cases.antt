@@ -9,8 +9,8 @@ use Rattle.names.specs.declared.Order.the-variants.{Less, Equal, Greater}
 use Rattle.entries.specs.declared.Place.{Place}
 use Rattle.header.specs.declared.Record.{Record}
 use Rattle.tree.specs.Reading.{Held}
-use Rattle.book.specs.declared.Report.{Report}
-use Rattle.book.specs.declared.Own.{Own}
+use Rattle.report.specs.declared.Report.{Report}
+use Rattle.report.specs.declared.Own.{Own}
 use Rattle.walk.specs.Walk.{afterOf, comingAt, nameHere}
 use Rattle.walk.specs.Exact.{Comes}
 use Rattle.walk.specs.declared.Walk.{Walk}

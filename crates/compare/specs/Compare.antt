@@ -8,7 +8,7 @@ use Rattle.names.specs.Names.{compared}
 use Rattle.entries.specs.declared.Place.{Place}
 use Rattle.seek.specs.Seek.{byOrder}
 use Rattle.header.specs.declared.Record.{Record}
-use Rattle.book.specs.Book.{reportAt, ownAt}
+use Rattle.report.specs.Report.{reportAt, ownAt}
 use Rattle.walk.specs.Walk.{afterOf, comingAt, nameHere, weight, walkStart}
 use Rattle.walk.specs.declared.Walk.{Walk}
 use Rattle.walk.specs.declared.Coming.{Coming}

@@ -11,7 +11,8 @@ use Rattle.header.specs.declared.Record.{Record}
 use Rattle.tree.specs.Lists.{In, Each}
 use Rattle.tree.specs.Chain.{chain, chainEntries}
 use Rattle.tree.specs.Reading.{Held, Reading, heldOf}
-use Rattle.book.specs.Book.{directoryOf, shapeOf, reportOf, ownOf}
+use Rattle.book.specs.Book.{directoryOf, shapeOf}
+use Rattle.report.specs.Report.{reportOf, ownOf}
 use Rattle.walk.specs.Exact.{readingOf}
 use Rattle.compare.specs.Course.{Pair, left, right, both, Ending, done, first-stops, second-stops, heldName, course, pairs, ending, pairName, firsts, seconds, isSame, differences, totalsFrom, noTotals}
 use Rattle.compare.specs.Compare.{refusedBy, compareStep}

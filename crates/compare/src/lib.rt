@@ -13,13 +13,13 @@ ghost use Rattle.compare.specs.Compare.{refusedBy, compareStart, shownAt
 ghost use Rattle.compare.specs.Compared.{afterSteps, ComparisonExact, BooksCompared};
 ghost use Rattle.compare.specs.declared.Step.the-variants.{Refused};
 ghost use Rattle.compare.specs.Passing.{SameTold, Passed};
-use book::Own;
-use book::Report;
 use entries::Item;
 use entries::Place;
 use header::Record;
 use names::Order;
 use refusals::Refusal;
+use report::Own;
+use report::Report;
 use walk::Coming;
 use walk::Walk;
 
@@ -119,8 +119,8 @@ fn show(file: &[u8], book: Record, w: Walk, e: Place) -> Shown
     ensures { λ r. ⌜ r ≡ shownAt (now (file .entry)) book w e ⌝ }
 {
     Shown {
-        report: book::report_of(file, book, w.chunk, e),
-        own: book::own_of(file, book, w.chunk, e),
+        report: report::report_of(file, book, w.chunk, e),
+        own: report::own_of(file, book, w.chunk, e),
     }
 }
 

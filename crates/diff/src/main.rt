@@ -55,7 +55,7 @@ fn open_file(file: &[u8]) -> Opened
 // The digits of an entry's own bytes, as stored.
 fn write_own(file: &[u8], x: Shown) {
     let own = x.own;
-    frames::write_digits(listing::part(file, own.place, own.length));
+    frames::write_digits(content::part(file, own.place, own.length));
 }
 
 fn write_kind(kind: u8) {

@@ -2,7 +2,7 @@
 use Prim.Native.Nat.{ℕ, _+_, _*_, _^_}
 use mathlib.Core.List.{List, [], _∷_, _++_}
 use lib.ListN.{getD}
-use Rattle.listing.specs.Listing.{fiveOf}
+use Rattle.page.specs.Page.{fiveOf}
 use Rattle.walk.specs.declared.Walk.{Walk}
 use Rattle.compare.specs.declared.Totals.{Totals}
 use Rattle.compare.specs.declared.Cursor.{Cursor}

@@ -1,8 +1,7 @@
 // The directory's header: refusals 6 and 7. d is the 84 bytes of the header.
 ghost use mathlib.Core.Path.{_≡_};
 ghost use Rattle.fields.specs.Le.{le};
-ghost use Rattle.directory_header.specs.DirectoryHeader.{directoryTagged, within, boundsRight, endsRight, rootRight, directoryRight};
-ghost use Rattle.directory_header.specs.DirectoryHeader.{directoryFieldsOf, directoryHeaderOf};
+ghost use Rattle.directory_header.specs.DirectoryHeader.{directoryTagged, within, boundsRight, endsRight, rootRight, directoryRight, directoryFieldsOf, directoryHeaderOf};
 
 // What the directory's header says: the chunk size, density, depth, root, the first and the last listing chunk, the chunk count.
 pub struct DirectoryFields {

@@ -17,9 +17,10 @@ use Rattle.header.specs.declared.Record.{Record}
 use Rattle.tree.specs.Tree.{top}
 use Rattle.tree.specs.Descent.{Outcome, found, absent, refused, answer, onward}
 use Rattle.tree.specs.Fetch.{fetchFrom}
-use Rattle.book.specs.Book.{limitsOf, chunkBytes, shapeOf, recordFits, reportOf}
-use Rattle.book.specs.Search.{Stands}
-use Rattle.book.proofs.Searching.{found-report, found-stands}
+use Rattle.book.specs.Book.{limitsOf, chunkBytes, shapeOf, recordFits}
+use Rattle.report.specs.Report.{reportOf}
+use Rattle.search.specs.Search.{Stands}
+use Rattle.search.proofs.Searching.{found-report, found-stands}
 use Rattle.lookup.specs.Reply.{replyTo, repliedTo}
 use Rattle.lookup.specs.declared.Reply.the-variants.{Found, Refused}
 use Rattle.fetch.specs.Fetch.{fetchAt, fetched, FoundStands}

@@ -11,10 +11,10 @@ use Rattle.tree.specs.Descent.{absent}
 use Rattle.tree.specs.Fetch.{fetchFrom}
 use Rattle.tree.proofs.Steps.{leads-down, leads-nowhere}
 use Rattle.book.specs.Book.{limitsOf, chunkBytes}
-use Rattle.book.specs.Search.{findingIn, childIn}
-use Rattle.book.specs.declared.Finding.{Finding}
-use Rattle.book.specs.declared.Report.{Report}
-use Rattle.book.proofs.Searching.{finding-found, finding-nothing}
+use Rattle.search.specs.Search.{findingIn, childIn}
+use Rattle.search.specs.declared.Finding.{Finding}
+use Rattle.report.specs.declared.Report.{Report}
+use Rattle.search.proofs.Searching.{finding-found, finding-nothing}
 use Rattle.lookup.specs.Reply.{replyTo}
 use Rattle.lookup.specs.declared.Reply.{Reply}
 use Rattle.lookup.specs.declared.Reply.the-variants.{Found, Absent}

@@ -8,8 +8,8 @@ use Rattle.tree.specs.Tree.{top}
 use Rattle.tree.specs.Descent.{Outcome}
 use Rattle.tree.specs.Fetch.{fetchFrom}
 use Rattle.book.specs.Book.{limitsOf, chunkBytes, shapeOf}
-use Rattle.book.specs.Search.{Stands}
-use Rattle.book.specs.declared.Report.{Report}
+use Rattle.search.specs.Search.{Stands}
+use Rattle.report.specs.declared.Report.{Report}
 use Rattle.lookup.specs.Reply.{repliedTo}
 use Rattle.lookup.specs.declared.Reply.{Reply}
 use Rattle.lookup.specs.declared.Reply.the-variants.{Found}

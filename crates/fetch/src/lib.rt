@@ -3,16 +3,16 @@ ghost use mathlib.Core.Path.{_≡_};
 ghost use Prim.Native.Nat.{_≤_};
 ghost use Rattle.lookup.specs.Reply.{replyTo, SameAsLookup};
 ghost use Rattle.fetch.specs.Fetch.{fetchAt, fetched, FoundStands};
-use book::Finding;
 use header::Record;
 use lookup::Reply;
+use search::Finding;
 use seek::Child;
 
 // What listing chunk c answers to a name.
 fn fetch_leaf(file: &[u8], book: Record, name: &[u8], c: u64) -> Reply
     ensures { λ r. ⌜ r ≡ replyTo book (fetchAt (now (file .entry)) book (now (name .entry)) 1 c) ⌝ }
 {
-    match book::find_in(file, book, name, c) {
+    match search::find_in(file, book, name, c) {
         Finding::Found(_, x) => Reply::Found(x),
         Finding::Nothing(_) => Reply::Absent,
     }
@@ -26,7 +26,7 @@ fn fetch_from(file: &[u8], book: Record, name: &[u8], level: u64, c: u64) -> Rep
     let mut at = c;
     let mut left = level;
     while 1 < left {
-        let chosen = book::child_in(file, book, name, at);
+        let chosen = search::child_in(file, book, name, at);
         let child = chosen.child;
         let Child::Below(below) = child else {
             return Reply::Absent;

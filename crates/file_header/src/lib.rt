@@ -2,9 +2,7 @@
 ghost use mathlib.Core.Path.{_≡_};
 ghost use Prim.Native.Nat.{_+_, _^_, _<_};
 ghost use lib.Dec.{leb};
-ghost use Rattle.file_header.specs.FileHeader.{versionField, headerEnd, timeField, languageField, sectionStart, sectionLength, directoryStart, directoryLength, contentStart};
-ghost use Rattle.file_header.specs.FileHeader.{fileTagged, versionRight, placed, apart, lengthsRight, placesRight, contentRight, sectionsRight};
-ghost use Rattle.file_header.specs.FileHeader.{fileFieldsOf, fileHeaderOf, sectionZeroOf};
+ghost use Rattle.file_header.specs.FileHeader.{versionField, headerEnd, timeField, languageField, sectionStart, sectionLength, directoryStart, directoryLength, contentStart, fileTagged, versionRight, placed, apart, lengthsRight, placesRight, contentRight, sectionsRight, fileFieldsOf, fileHeaderOf, sectionZeroOf};
 
 // What the file header says: version, time, language, where section 0 starts, start and length of the directory, where the content starts.
 pub struct FileFields {

@@ -7,7 +7,8 @@ ghost use Rattle.names.specs.Names.{compared, orderCode};
 ghost use Rattle.opening.specs.Opened.{opened};
 ghost use Rattle.opening.specs.declared.Opened.the-variants.{Book};
 ghost use Rattle.lookup.specs.Lookup.{lookedUp, trailAfter};
-ghost use Rattle.listing.specs.Listing.{startOf, stepped, ownedAt, pageOf, pageIn};
+ghost use Rattle.listing.specs.Listing.{startOf, stepped, ownedAt};
+ghost use Rattle.page.specs.Page.{pageOf, pageIn};
 ghost use Rattle.scan.specs.Scan.{scanned};
 ghost use Rattle.fetch.specs.Fetch.{fetched};
 ghost use Rattle.batch.specs.Batch.{batchOf, answersIn};
@@ -156,7 +157,7 @@ pub extern "C" fn hods_chunk_page(
     ensures entries { λ _. ⌜ now (entries .exit) ≡ pageIn (now (file .entry)) (recordIn (now («record» .entry))) chunk (now (entries .entry)) ⌝ }
     ensures numbers { λ _. ⌜ now (next .exit) ≡ pageNumbers (pageOf (now (file .entry)) (recordIn (now («record» .entry))) chunk (length (now (entries .entry)))) (now (next .entry)) ⌝ }
 {
-    let page = listing::chunk_page(file, numbers::record_in(record), chunk, entries);
+    let page = page::chunk_page(file, numbers::record_in(record), chunk, entries);
     numbers::tell_page(page, next)
 }
 
@@ -202,7 +203,7 @@ pub extern "C" fn hods_compare_step(
 pub extern "C" fn hods_part(file: &[u8], place: u64, length: u64) -> u64
     ensures { λ r. ⌜ r ≡ partLength (now (file .entry)) place «length» ⌝ }
 {
-    listing::part(file, place, length).len() as u64
+    content::part(file, place, length).len() as u64
 }
 
 // Writes the head of a book with these entries and content of that length: 0 and the head's length, or the refusal with nothing changed.

@@ -11,8 +11,8 @@ fn write_entries(file: &[u8], book: Record) {
     loop {
         match at.peek(file, book) {
             Coming::Entry(e, w) => {
-                let own = book::own_of(file, book, w.chunk, e);
-                frames::write_frame(listing::part(file, own.place, own.length));
+                let own = report::own_of(file, book, w.chunk, e);
+                frames::write_frame(content::part(file, own.place, own.length));
                 at = w.after(e);
             }
             Coming::End => return,

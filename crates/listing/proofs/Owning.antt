@@ -17,8 +17,9 @@ use Rattle.quickref.specs.declared.Hit.the-variants.{At as HitAt, Nothing as Hi
 use Rattle.header.specs.declared.Record.{Record}
 use Rattle.tree.specs.Shape.{isListing, listingChunk}
 use Rattle.tree.proofs.Chunks.{listing-chunk}
-use Rattle.book.specs.Book.{limitsOf, chunkBytes, directoryOf, shapeOf, recordFits, reportOf, ownOf, ownAt}
-use Rattle.book.proofs.Read.{read-owned, own-padded, nth-hit, nth-nothing}
+use Rattle.book.specs.Book.{limitsOf, chunkBytes, directoryOf, shapeOf, recordFits}
+use Rattle.report.specs.Report.{reportOf, ownOf, ownAt}
+use Rattle.report.proofs.Reported.{read-owned, own-padded, nth-hit, nth-nothing}
 use Rattle.listing.specs.Listing.{movedOn, stepOf, entryStep, stepped, canList, ownedOf, ownedAt, OwnBeside}
 use Rattle.listing.specs.declared.Cursor.{Cursor}
 use Rattle.listing.specs.declared.Step.{Step}

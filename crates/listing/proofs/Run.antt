@@ -10,8 +10,9 @@ use Rattle.chunk.specs.Chunk.{Entry, entriesIn}
 use Rattle.quickref.specs.Quickref.{found, nth}
 use Rattle.header.specs.declared.Record.{Record}
 use Rattle.tree.specs.Shape.{nextOf, listingChunk}
-use Rattle.book.specs.Book.{directoryOf, shapeOf, recordFits, reportOf}
-use Rattle.book.specs.declared.Report.{Report}
+use Rattle.book.specs.Book.{directoryOf, shapeOf, recordFits}
+use Rattle.report.specs.Report.{reportOf}
+use Rattle.report.specs.declared.Report.{Report}
 use Rattle.listing.specs.Listing.{cursorAt, stepped, reportsIn}
 use Rattle.listing.specs.Whole.{cursorIn, stepsFrom, cursorAfter}
 use Rattle.listing.specs.declared.Cursor.{Cursor}

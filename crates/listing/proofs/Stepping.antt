@@ -15,13 +15,15 @@ use Rattle.quickref.specs.declared.Hit.{Hit}
 use Rattle.quickref.specs.declared.Hit.the-variants.{At, Nothing}
 use Rattle.header.specs.declared.Record.{Record}
 use Rattle.tree.specs.Shape.{isListing, nextOf, listingChunk}
-use Rattle.book.specs.Book.{limitsOf, chunkBytes, directoryOf, shapeOf, recordFits, reportOf, reportAt}
+use Rattle.book.specs.Book.{limitsOf, chunkBytes, directoryOf, shapeOf, recordFits}
+use Rattle.report.specs.Report.{reportOf, reportAt}
 use Rattle.listing.specs.Listing.{cursorAt, movedOn, entryStep, stepped}
 use Rattle.listing.specs.declared.Cursor.{Cursor}
 use Rattle.listing.specs.declared.Step.the-variants.{Entry as Reported, End, Refused}
 use Rattle.tree.proofs.Chunks.{listing-chunk}
 use Rattle.book.proofs.Laws.{fits-told}
-use Rattle.book.proofs.Read.{entries-length, nth-hit, nth-nothing}
+use Rattle.book.proofs.Read.{entries-length}
+use Rattle.report.proofs.Reported.{nth-hit, nth-nothing}
 
 -- at a cursor in a chunk that is p
 module _ (book : Record) (p : Parsed) (at : Cursor) where

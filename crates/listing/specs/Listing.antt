@@ -1,29 +1,30 @@
--- Listing: the cursor, the answer of a step, an entry's own bytes, and a page, which is all entries of one chunk (FORMAT K7 to K13, K25).
-use Prim.Native.Nat.{ℕ, _+_, _*_}
+-- Listing: the cursor, the answer of a step, and an entry's own bytes (FORMAT K7 to K13, K25).
+use Prim.Native.Nat.{ℕ, _+_}
 use mathlib.Core.Bool.{Bool, cond, _&&_}
-use mathlib.Core.List.{List, [], _∷_, map, flatMap}
+use mathlib.Core.List.{List, map}
 use lib.ListN.{length}
-use lib.Seq.{sets}
-use lib.Dec.{ltb, leb, eqb}
+use lib.Dec.{ltb, eqb}
 use Rattle.refusals.specs.Refusals.{noChunk, refusalOf}
-use Rattle.fields.specs.Part.{partOf}
 use Rattle.chunk.specs.Chunk.{Parsed, entriesIn}
 use Rattle.quickref.specs.Quickref.{Sought, absent, found, nth}
 use Rattle.header.specs.declared.Record.{Record}
 use Rattle.tree.specs.Shape.{nextOf, listingChunk}
-use Rattle.book.specs.Book.{directoryOf, shapeOf, recordFits, reportOf, ownOf, OwnBytes}
-use Rattle.book.specs.declared.Report.{Report}
+use Rattle.book.specs.Book.{directoryOf, shapeOf, recordFits}
+use Rattle.report.specs.Report.{reportOf, ownOf, OwnBytes}
+use Rattle.report.specs.declared.Report.{Report}
 use Rattle.listing.specs.declared.Cursor.{Cursor}
 use Rattle.listing.specs.declared.Step.{Step}
 use Rattle.listing.specs.declared.Step.the-variants.{End}
 use Rattle.listing.specs.declared.Owned.{Owned}
 use Rattle.listing.specs.declared.Owned.the-variants.{At, Nothing}
-use Rattle.listing.specs.declared.Page.{Page}
-use Rattle.listing.specs.declared.Page.the-variants.{Entries, Short}
 
 -- chunk c can be listed: the record can be asked, and c is a listing chunk below the count (K12, K13)
 unfoldable pub canList : List ℕ → Record → ℕ → Bool
 canList s book c = recordFits s book && listingChunk (directoryOf s book) (shapeOf book) c
+
+-- the reports of all entries of chunk c
+abbrev pub reportsIn : List ℕ → Record → ℕ → List Report
+reportsIn s book c = map (reportOf book c) (entriesIn (directoryOf s book c))
 
 -- ---- the cursor
 
@@ -81,39 +82,3 @@ OwnBeside s (End at) (At o) = ⊥
 OwnBeside s (End at) Nothing = Unit {0}
 OwnBeside s (Step.Refused x) (At o) = ⊥
 OwnBeside s (Step.Refused x) Nothing = Unit {0}
-
--- ---- a page
-
--- the five numbers of a report in their order (K6, K7)
-abbrev pub fiveOf : Report → List ℕ
-fiveOf r = r .place ∷ r .length ∷ r .section ∷ r .offset ∷ r .size ∷ []
-
--- those of some reports, one behind another
-unfoldable pub numbersOf : List Report → List ℕ
-numbersOf rs = flatMap fiveOf rs
-
--- the reports of all entries of chunk c
-abbrev pub reportsIn : List ℕ → Record → ℕ → List Report
-reportsIn s book c = map (reportOf book c) (entriesIn (directoryOf s book c))
-
-module _ (s : List ℕ) (book : Record) (c : ℕ) where
-  -- its entries have room in n places
-  unfoldable pub hasRoom : ℕ → Bool
-  hasRoom n = leb (5 * length (entriesIn (directoryOf s book c))) n
-
-  -- the answer for a slice of n places: the count of the entries, and the chunk's next as stored
-  unfoldable pub pageOf : ℕ → Page
-  pageOf n =
-      cond (canList s book c)
-      (cond (hasRoom n) (Entries (length (entriesIn (directoryOf s book c))) (nextOf (directoryOf s book c))) Short)
-      (Page.Refused (refusalOf 17))
-
-  -- the slice t with the entries' numbers from place 0 on; t itself where they are refused (RO8) or have no room
-  unfoldable pub pageIn : List ℕ → List ℕ
-  pageIn t = cond (canList s book c && hasRoom (length t)) (sets t 0 (numbersOf (reportsIn s book c))) t
-
--- ---- what is stored under an entry
-
--- the bytes of an entry of section 0 start at content start + offset (E8); none for another section, and where they do not lie inside the file (K15)
-unfoldable pub contentPart : List ℕ → Record → Report → List ℕ
-contentPart s book x = cond (eqb (x .section) 0) (partOf s (book .content + x .offset) (x .size)) []

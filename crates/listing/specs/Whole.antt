@@ -1,16 +1,15 @@
--- Several steps: what they report, and where they come to. The listing of a whole book, and what steps and pages promise of it.
-use Prim.Native.Nat.{ℕ, zero, suc, _<_}
+-- Several steps: what they report, and where they come to. The listing of a whole book, and what steps promise of it.
+use Prim.Native.Nat.{ℕ, zero, suc}
 use mathlib.Core.Path.{_≡_}
 use mathlib.Core.List.{List, [], _∷_, _++_, flatMap}
 use lib.ListN.{length, take}
-use lib.Seq.{sets}
 use Rattle.refusals.specs.Refusals.{noChunk}
 use Rattle.header.specs.declared.Record.{Record}
 use Rattle.tree.specs.Chain.{chain}
 use Rattle.tree.specs.Exact.{ChainListed}
 use Rattle.book.specs.Book.{directoryOf, shapeOf}
-use Rattle.book.specs.declared.Report.{Report}
-use Rattle.listing.specs.Listing.{cursorAt, startOf, stepped, numbersOf, reportsIn, pageIn}
+use Rattle.report.specs.declared.Report.{Report}
+use Rattle.listing.specs.Listing.{startOf, stepped, reportsIn}
 use Rattle.listing.specs.declared.Cursor.{Cursor}
 use Rattle.listing.specs.declared.Step.{Step}
 use Rattle.listing.specs.declared.Step.the-variants.{Entry, End, Refused}
@@ -61,14 +60,3 @@ pub record ListingExact (s : List ℕ) (book : Record) : Type 0 where
   pub stays : (n : ℕ) → stepped s book (cursorAfter s book n (lastCursor s book)) ≡ End (lastCursor s book)
   -- the chain has every listing chunk below the count, each once, and the names of its entries rise
   pub complete : ChainListed (directoryOf s book) (shapeOf book)
-
--- ---- a page of n entries in the slice t, with its next chunk, and the steps in chunk c
-
-pub record PageSteps (s : List ℕ) (book : Record) (c : ℕ) (t : List ℕ) (n next : ℕ) : Type 0 where
-  -- n steps from entry 0 on report n entries, whose numbers are those of the page, five by five;
-  pub count : length (stepsFrom s book n (cursorAt c 0)) ≡ n
-  pub numbers : pageIn s book c t ≡ sets t 0 (numbersOf (stepsFrom s book n (cursorAt c 0)))
-  -- each of them is in the chunk,
-  pub inside : (i : ℕ) → i < n → cursorAfter s book i (cursorAt c 0) ≡ cursorAt c i
-  -- and behind the last is entry 0 of the page's next chunk
-  pub behind : cursorAfter s book n (cursorAt c 0) ≡ cursorAt next 0

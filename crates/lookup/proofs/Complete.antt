@@ -17,8 +17,9 @@ use Rattle.tree.specs.Tree.{top}
 use Rattle.tree.specs.Exact.{LookupExact}
 use Rattle.tree.proofs.Descended.{trail-bound}
 use Rattle.tree.proofs.LookupExact.{lookup-exact}
-use Rattle.book.specs.Book.{directoryOf, shapeOf, reportOf}
-use Rattle.book.specs.declared.Report.{Report}
+use Rattle.book.specs.Book.{directoryOf, shapeOf}
+use Rattle.report.specs.Report.{reportOf}
+use Rattle.report.specs.declared.Report.{Report}
 use Rattle.opening.specs.Opened.{opened}
 use Rattle.opening.specs.declared.Opened.the-variants.{Book}
 use Rattle.lookup.specs.Lookup.{outcomeIn, trailIn, countIn, effortIn, answerOf, unless, lookedUp, trailAfter}

@@ -5,7 +5,7 @@ use Prim.Native.Nat.{ℕ, suc, _+_}
 use native.Mathlib.Omega.{arith}
 use lib.ListN.{length}
 use Rattle.header.specs.declared.Record.{Record}
-use Rattle.book.specs.Search.{costAt}
+use Rattle.search.specs.Search.{costAt}
 use Rattle.lookup.specs.Lookup.{costs}
 use Rattle.lookup.specs.Step.{effortAfter}
 use Rattle.lookup.specs.declared.Effort.{Effort}

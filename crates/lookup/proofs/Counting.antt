@@ -16,8 +16,8 @@ use Rattle.header.specs.declared.Record.{Record}
 use Rattle.tree.specs.Lists.{In}
 use Rattle.tree.specs.Descent.{Outcome, found, absent, refused}
 use Rattle.book.specs.Book.{directoryOf, recordFits}
-use Rattle.book.specs.Search.{costAt}
-use Rattle.book.specs.declared.Report.{Report}
+use Rattle.search.specs.Search.{costAt}
+use Rattle.report.specs.declared.Report.{Report}
 use Rattle.lookup.specs.Lookup.{outcomeIn, trailIn, costs, effortIn, answerOf, lookedUp}
 use Rattle.lookup.specs.Counted.{groupsAt, Counted}
 use Rattle.lookup.specs.declared.Effort.{Effort}

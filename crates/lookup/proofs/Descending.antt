@@ -13,8 +13,8 @@ use Rattle.tree.specs.Shape.{listingChunk, indexChunk}
 use Rattle.tree.specs.Descent.{absent, refused, childFor, onward, outcomeFrom, trailFrom}
 use Rattle.tree.proofs.Chunks.{listing-chunk, index-chunk}
 use Rattle.book.specs.Book.{directoryOf, shapeOf}
-use Rattle.book.specs.Search.{costAt}
-use Rattle.book.proofs.Searching.{chosen-fits}
+use Rattle.search.specs.Search.{costAt}
+use Rattle.search.proofs.Searching.{chosen-fits}
 use Rattle.lookup.specs.Lookup.{answerOf, isRefusal, unless}
 use Rattle.lookup.specs.Step.{wayAt, outcomeAt, trailAt, Descended}
 use Rattle.lookup.specs.declared.Effort.{Effort}

@@ -17,11 +17,11 @@ use Rattle.tree.specs.Shape.{nextOf, listingChunk, indexChunk}
 use Rattle.tree.specs.Descent.{refused, answer, outcomeFrom}
 use Rattle.tree.proofs.Steps.{leads-down, leads-nowhere}
 use Rattle.book.specs.Book.{limitsOf, chunkBytes, directoryOf, shapeOf}
-use Rattle.book.specs.Search.{childIn, costAt, searchOf, searchIn}
-use Rattle.book.specs.declared.Report.{Report}
-use Rattle.book.specs.declared.Search.{Search}
-use Rattle.book.specs.declared.Search.the-variants.{Next}
-use Rattle.book.proofs.Searching.{chosen-in, chosen-cost, found-fits, search-told}
+use Rattle.search.specs.Search.{childIn, costAt, searchOf, searchIn}
+use Rattle.report.specs.declared.Report.{Report}
+use Rattle.search.specs.declared.Search.{Search}
+use Rattle.search.specs.declared.Search.the-variants.{Next}
+use Rattle.search.proofs.Searching.{chosen-in, chosen-cost, found-fits, search-told}
 use Rattle.lookup.specs.Lookup.{answerOf}
 use Rattle.lookup.specs.Step.{wayAt, outcomeAt}
 use Rattle.lookup.specs.declared.Answer.{Answer}

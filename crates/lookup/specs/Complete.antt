@@ -12,8 +12,9 @@ use Rattle.chunk.specs.Chunk.{Entry}
 use Rattle.header.specs.declared.Record.{Record}
 use Rattle.tree.specs.Shape.{firstName}
 use Rattle.tree.specs.Exact.{Holds}
-use Rattle.book.specs.Book.{directoryOf, shapeOf, reportOf}
-use Rattle.book.specs.declared.Report.{Report}
+use Rattle.book.specs.Book.{directoryOf, shapeOf}
+use Rattle.report.specs.Report.{reportOf}
+use Rattle.report.specs.declared.Report.{Report}
 use Rattle.lookup.specs.Lookup.{trailIn, countIn, effortIn}
 use Rattle.lookup.specs.declared.Effort.{Effort}
 use Rattle.lookup.specs.declared.Answer.{Answer}

@@ -8,8 +8,8 @@ use Rattle.seek.specs.Count.{Least}
 use Rattle.header.specs.declared.Record.{Record}
 use Rattle.tree.specs.Lists.{In}
 use Rattle.book.specs.Book.{directoryOf}
-use Rattle.book.specs.Search.{costAt}
-use Rattle.book.specs.declared.Report.{Report}
+use Rattle.search.specs.Search.{costAt}
+use Rattle.report.specs.declared.Report.{Report}
 use Rattle.lookup.specs.Lookup.{trailIn, countIn, costs}
 use Rattle.lookup.specs.declared.Effort.{Effort}
 use Rattle.lookup.specs.declared.Answer.{Answer}

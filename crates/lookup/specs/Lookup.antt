@@ -9,8 +9,9 @@ use Rattle.refusals.specs.Refusals.{refusalOf}
 use Rattle.names.specs.Names.{askable}
 use Rattle.header.specs.declared.Record.{Record}
 use Rattle.tree.specs.Descent.{Outcome, found, absent, refused, outcome, trail}
-use Rattle.book.specs.Book.{directoryOf, shapeOf, recordFits, reportOf}
-use Rattle.book.specs.Search.{costAt}
+use Rattle.book.specs.Book.{directoryOf, shapeOf, recordFits}
+use Rattle.report.specs.Report.{reportOf}
+use Rattle.search.specs.Search.{costAt}
 use Rattle.lookup.specs.declared.Effort.{Effort}
 use Rattle.lookup.specs.declared.Answer.{Answer}
 use Rattle.lookup.specs.declared.Answer.the-variants.{Found, Absent, Refused}

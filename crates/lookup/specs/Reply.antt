@@ -7,7 +7,8 @@ use Rattle.refusals.specs.Refusals.{refusalOf}
 use Rattle.names.specs.Names.{askable}
 use Rattle.header.specs.declared.Record.{Record}
 use Rattle.tree.specs.Descent.{Outcome, found, absent, refused}
-use Rattle.book.specs.Book.{recordFits, reportOf}
+use Rattle.book.specs.Book.{recordFits}
+use Rattle.report.specs.Report.{reportOf}
 use Rattle.opening.specs.Opened.{opened}
 use Rattle.opening.specs.declared.Opened.the-variants.{Book}
 use Rattle.lookup.specs.Lookup.{lookedUp}

@@ -9,7 +9,7 @@ use Rattle.header.specs.declared.Record.{Record}
 use Rattle.tree.specs.Shape.{indexChunk}
 use Rattle.tree.specs.Descent.{Outcome, childFor, onward, outcomeFrom, trailFrom}
 use Rattle.book.specs.Book.{directoryOf, shapeOf}
-use Rattle.book.specs.Search.{costAt}
+use Rattle.search.specs.Search.{costAt}
 use Rattle.lookup.specs.Lookup.{costs, answerOf, unless}
 use Rattle.lookup.specs.declared.Effort.{Effort}
 use Rattle.lookup.specs.declared.Answer.{Answer}

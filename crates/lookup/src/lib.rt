@@ -3,7 +3,7 @@ ghost use mathlib.Core.Path.{_≡_};
 ghost use mathlib.Core.Bool.{false, cond};
 ghost use Prim.Native.Nat.{_+_, _*_, _^_, _≤_, _<_};
 ghost use lib.ListN.{length, set};
-ghost use Rattle.book.specs.Search.{costAt};
+ghost use Rattle.search.specs.Search.{costAt};
 ghost use Rattle.opening.specs.Opened.{opened};
 ghost use Rattle.opening.specs.declared.Opened.the-variants.{Book};
 ghost use Rattle.lookup.specs.Lookup.{answerOf, isRefusal, lookedUp, trailAfter};
@@ -11,11 +11,11 @@ ghost use Rattle.lookup.specs.Step.{wayAt, outcomeAt, Descended};
 ghost use Rattle.lookup.specs.Complete.{Complete};
 ghost use Rattle.lookup.specs.Counted.{Counted};
 ghost use Rattle.lookup.specs.Blocks.{OnlyBlocks};
-use book::Report;
-use book::Search;
 use chunk::Chunk;
 use header::Record;
 use refusals::Refusal;
+use report::Report;
+use search::Search;
 use seek::Child;
 
 // What a descent takes: how many chunks it goes through, and how many comparisons of the asked name it makes in them.
@@ -50,7 +50,7 @@ fn ask_listing(file: &[u8], book: Record, name: &[u8], c: u64, n: u32, spent: u3
     requires { ⌜ spent < 0x100000 ⌝ }
     ensures { λ r. ⌜ r ≡ answerOf book (record { chunks = n; comparisons = spent + costAt (now (file .entry)) book (now (name .entry)) c }) (outcomeAt (now (file .entry)) book (now (name .entry)) 1 c) ⌝ }
 {
-    match book::search_in(file, book, name, c) {
+    match search::search_in(file, book, name, c) {
         Search::Found(count, x) => {
             let sum = spent + count;
             let effort = Effort {
@@ -78,7 +78,7 @@ fn ask_index(file: &[u8], book: Record, name: &[u8], c: u64) -> Way
     let Chunk::Index = book::checked_chunk(file, book, c) else {
         return Way::Barred;
     };
-    let chosen = book::child_in(file, book, name, c);
+    let chosen = search::child_in(file, book, name, c);
     let child = chosen.child;
     match child {
         Child::Below(below) => Way::Down(below, chosen.count),

@@ -12,14 +12,14 @@ use Rattle.lookup.specs.declared.Answer.the-variants.{Found, Absent}
 use Rattle.lookup.specs.declared.Reply.{Reply}
 use Rattle.batch.specs.declared.Batched.{Batched}
 use Rattle.batch.specs.declared.Batched.the-variants.{Answered}
-use Rattle.listing.specs.Listing.{fiveOf}
+use Rattle.page.specs.Page.{fiveOf}
 use Rattle.listing.specs.declared.Cursor.{Cursor}
 use Rattle.listing.specs.declared.Step.{Step}
 use Rattle.listing.specs.declared.Step.the-variants.{End}
 use Rattle.listing.specs.declared.Owned.{Owned}
 use Rattle.listing.specs.declared.Owned.the-variants.{At, Nothing}
-use Rattle.listing.specs.declared.Page.{Page}
-use Rattle.listing.specs.declared.Page.the-variants.{Entries, Short}
+use Rattle.page.specs.declared.Page.{Page}
+use Rattle.page.specs.declared.Page.the-variants.{Entries, Short}
 use Rattle.writer.specs.declared.Written.{Written}
 use Rattle.writer.specs.declared.Written.the-variants.{Length}
 

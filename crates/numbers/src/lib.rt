@@ -1,19 +1,19 @@
 // The library's values as numbers for C: a record is its numbers in the order of its fields, a refusal its number plus 256 times its place, and an answer a
 // code, with numbers in lent places. Code 0 comes with what was asked, 255 where there is none; what a code does not come with stays as it was.
 ghost use mathlib.Core.Path.{_≡_};
-ghost use Rattle.listing.specs.Listing.{fiveOf};
+ghost use Rattle.page.specs.Page.{fiveOf};
 ghost use Rattle.numbers.specs.Numbers.{recordIn, recordNumbers, refusalCode, openCode, openRecord, lookupCode, lookupNumbers, replyCode, replyNumbers, batchCode, cursorIn, cursorNumbers, stepCode, stepCursor, stepNumbers, ownCode, ownNumbers, pageCode, pageNumbers, writeCode, writeNumbers};
 use batch::Batched;
-use book::Report;
 use header::Record;
 use listing::Cursor;
 use listing::Owned;
-use listing::Page;
 use listing::Step;
 use lookup::Answer;
 use lookup::Reply;
 use opening::Opened;
+use page::Page;
 use refusals::Refusal;
+use report::Report;
 use writer::Written;
 
 // The numbers of a record; `HODS_RECORD` in include/hodsplinter.h is how many there are.

@@ -15,8 +15,9 @@ use Rattle.entries.specs.declared.Kind.the-variants.{Listing}
 use Rattle.chunk.specs.Chunk.{Entry, Parsed, bad, listing, index, isGood, isKind, entriesIn, spacingOf, firstPlace}
 use Rattle.chunk.proofs.Accepted.{chunk-accepted}
 use Rattle.header.specs.declared.Record.{Record}
-use Rattle.book.specs.Book.{limitsOf, chunkPlace, chunkBytes, directoryOf, reportOf}
-use Rattle.book.specs.declared.Report.{Report}
+use Rattle.book.specs.Book.{limitsOf, chunkPlace, chunkBytes, directoryOf}
+use Rattle.report.specs.Report.{reportOf}
+use Rattle.report.specs.declared.Report.{Report}
 use Rattle.book.proofs.Laws.{chunk-inside}
 use Rattle.opening.specs.Opened.{chunkThen, chunksThen, linkedBook, opened}
 use Rattle.opening.specs.declared.Opened.{Opened}

@@ -5,7 +5,7 @@ use mathlib.Core.List.{List, _++_, map}
 use lib.ListN.{length}
 use Rattle.fields.specs.Part.{part}
 use Rattle.header.specs.declared.Record.{Record}
-use Rattle.book.specs.declared.Report.{Report}
+use Rattle.report.specs.declared.Report.{Report}
 use Rattle.opening.specs.Opened.{opened}
 use Rattle.opening.specs.declared.Opened.the-variants.{Book}
 use Rattle.listing.specs.Whole.{wholeListing}

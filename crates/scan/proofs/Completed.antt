@@ -13,7 +13,8 @@ use Rattle.header.specs.declared.CheckedHeader.the-variants.{Good}
 use Rattle.tree.specs.Descent.{Outcome, found, absent, refused}
 use Rattle.tree.specs.Exact.{PlainExact}
 use Rattle.tree.proofs.Reading.{plain-exact}
-use Rattle.book.specs.Book.{directoryOf, shapeOf, reportOf}
+use Rattle.book.specs.Book.{directoryOf, shapeOf}
+use Rattle.report.specs.Report.{reportOf}
 use Rattle.opening.specs.Opened.{opened}
 use Rattle.opening.specs.Refusals.{Told, head, chunk, chain, tree}
 use Rattle.opening.specs.declared.Opened.{Opened}

@@ -9,11 +9,11 @@ use Rattle.tree.specs.Descent.{Outcome}
 use Rattle.tree.specs.Walk.{plainFrom}
 use Rattle.tree.proofs.Plain.{from-here, from-end, from-on, from-barred, from-none}
 use Rattle.book.specs.Book.{directoryOf, shapeOf}
-use Rattle.book.specs.Search.{searchIn}
-use Rattle.book.specs.declared.Report.{Report}
-use Rattle.book.specs.declared.Search.{Search}
-use Rattle.book.specs.declared.Search.the-variants.{Next, Barred}
-use Rattle.book.proofs.Searching.{search-told}
+use Rattle.search.specs.Search.{searchIn}
+use Rattle.report.specs.declared.Report.{Report}
+use Rattle.search.specs.declared.Search.{Search}
+use Rattle.search.specs.declared.Search.the-variants.{Next, Barred}
+use Rattle.search.proofs.Searching.{search-told}
 use Rattle.lookup.specs.Reply.{replyTo}
 use Rattle.lookup.specs.declared.Reply.the-variants.{Found, Absent, Refused}
 

@@ -9,8 +9,9 @@ use Rattle.names.specs.Names.{askable}
 use Rattle.chunk.specs.Chunk.{Entry}
 use Rattle.header.specs.declared.Record.{Record}
 use Rattle.tree.specs.Chain.{chainOk}
-use Rattle.book.specs.Book.{directoryOf, shapeOf, recordFits, reportOf}
-use Rattle.book.specs.declared.Report.{Report}
+use Rattle.book.specs.Book.{directoryOf, shapeOf, recordFits}
+use Rattle.report.specs.Report.{reportOf}
+use Rattle.report.specs.declared.Report.{Report}
 use Rattle.lookup.specs.Complete.{HoldsIn}
 use Rattle.lookup.specs.declared.Reply.{Reply}
 use Rattle.lookup.specs.declared.Reply.the-variants.{Found, Absent, Refused}

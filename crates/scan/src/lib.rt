@@ -3,9 +3,9 @@ ghost use mathlib.Core.Path.{_≡_};
 ghost use Rattle.lookup.specs.Reply.{replyTo, SameAsLookup};
 ghost use Rattle.scan.specs.Scan.{plainIn, scanned};
 ghost use Rattle.scan.specs.Complete.{CompleteOnChain};
-use book::Search;
 use header::Record;
 use lookup::Reply;
+use search::Search;
 
 // The search from the record's first listing chunk on. More chunks than the record counts are no chain of a book: the first of these is refused.
 fn scan_chain(file: &[u8], book: Record, name: &[u8]) -> Reply
@@ -14,7 +14,7 @@ fn scan_chain(file: &[u8], book: Record, name: &[u8]) -> Reply
     let mut c = book.first;
     let mut left = book.count;
     while 0 < left {
-        match book::search_in(file, book, name, c) {
+        match search::search_in(file, book, name, c) {
             Search::Found(_, x) => return Reply::Found(x),
             Search::Next(_, next) => {
                 if next == refusals::no_chunk() {

@@ -23,7 +23,8 @@ use Rattle.tree.specs.Reading.{Held, heldAt, Reading, ended, cut, readThen, hel
 use Rattle.tree.proofs.Lists.{onTest}
 use Rattle.tree.proofs.Chunks.{listing-chunk}
 use Rattle.book.specs.Book.{limitsOf, chunkBytes, directoryOf, shapeOf, recordFits}
-use Rattle.book.proofs.Read.{entries-some, entries-read, read-reported, read-owned}
+use Rattle.book.proofs.Read.{entries-some, entries-read}
+use Rattle.report.proofs.Reported.{read-reported, read-owned}
 use Rattle.walk.specs.Walk.{walkStart, inChunk, afterOf, isOver, comingAt, nameHere}
 use Rattle.walk.specs.Exact.{readingOf, Comes, Reads, WalkExact}
 use Rattle.walk.specs.declared.Walk.{Walk}

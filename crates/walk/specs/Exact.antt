@@ -8,7 +8,8 @@ use Rattle.entries.specs.declared.Place.{Place}
 use Rattle.chunk.specs.Chunk.{entryOf}
 use Rattle.header.specs.declared.Record.{Record}
 use Rattle.tree.specs.Reading.{Held, heldAt, Reading, cut, reading}
-use Rattle.book.specs.Book.{chunkBytes, directoryOf, shapeOf, recordFits, reportOf, reportAt, ownOf, ownAt}
+use Rattle.book.specs.Book.{chunkBytes, directoryOf, shapeOf, recordFits}
+use Rattle.report.specs.Report.{reportOf, reportAt, ownOf, ownAt}
 use Rattle.walk.specs.Walk.{afterOf, comingAt, nameHere}
 use Rattle.walk.specs.declared.Walk.{Walk}
 use Rattle.walk.specs.declared.Coming.the-variants.{Entry, End, Refused}

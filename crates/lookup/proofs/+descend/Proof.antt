@@ -8,7 +8,7 @@ use denote.Ref.{now}
 use borrow.Author.Needs.{needs}
 use borrow.Fn.Kinds.{In}
 use borrow.Fn.PlainCycle.{Measures, is, falls, and}
-use Rattle.book.specs.Search.{costAt}
+use Rattle.search.specs.Search.{costAt}
 use Rattle.lookup.specs.Step.{wayAt}
 use Rattle.lookup.specs.declared.Answer.the-variants.{Absent, Refused}
 use Rattle.lookup.specs.declared.Way.the-variants.{Down, Ends, Barred}

@@ -3,8 +3,8 @@ use Prim.Native.Nat.{_+_}
 use native.Mathlib.Omega.{arith}
 use denote.Ref.{now}
 use borrow.Author.Needs.{needs}
-use Rattle.book.specs.Search.{costAt}
-use Rattle.book.specs.declared.Search.{Search}
+use Rattle.search.specs.Search.{costAt}
+use Rattle.search.specs.declared.Search.{Search}
 use Rattle.lookup.specs.Lookup.{answerOf}
 use Rattle.lookup.specs.Step.{outcomeAt}
 use Rattle.lookup.specs.declared.Answer.the-variants.{Refused}

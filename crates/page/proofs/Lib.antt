@@ -1,0 +1,4 @@
+pub mod Writing
+pub mod Paging
+pub mod Paged
+pub mod Refusals
