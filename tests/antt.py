@@ -229,7 +229,7 @@ def signature_end(rows):
 
 
 def import_of(text, first, last, public, ghost, indent):
-    m = re.match(r'\s*(?:pub |ghost )?use ([^{}\s]+?)(?:\.\{(.*)\}|::\{(.*)\}|\s+as\s+(\S+?))?;?\s*$', text)
+    m = re.match(r'\s*(?:unfoldable )?(?:pub |ghost )?use ([^{}\s]+?)(?:\.\{(.*)\}|::\{(.*)\}|\s+as\s+(\S+?))?;?\s*$', text)
     names = []
     inner = m[2] if m[2] is not None else m[3]
     if inner is not None:
@@ -516,6 +516,14 @@ class Crates:
                     if local == name:
                         return self.find(i.module, original, seen + (module,))
         return None
+
+    def home(self, module, name):
+        """The module that a name of a module comes from, where that one only hands it on."""
+        f, _ = self.file_of(module)
+        for i in f.imports if f else ():
+            if i.public and any(local == name for _, local in i.names):
+                return i.module
+        return module
 
     def meant(self, file, name, by=None):
         """The definitions that a cited name of a file may mean; several where several have it. A name in a pattern means a constructor or nothing."""

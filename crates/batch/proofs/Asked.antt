@@ -1,11 +1,5 @@
 -- The names, one behind another: what stands at a place, and how many there are.
-use mathlib.Core.Path.{_≡_, refl, ap, _∙_}
-use mathlib.Core.Bool.{cond}
-use mathlib.Core.List.{List}
-use Prim.Native.Nat.{ℕ, zero, suc, _+_, _-_, _≤_, _<_}
-use native.Mathlib.Omega.{arith}
-use lib.ListN.{length}
-use borrow.Author.Tests.{leb-true, lt-ltb, le-ltb}
+use Rattle.fields.proofs.Base.{_≡_, refl, ap, _∙_, cond, List, ℕ, zero, suc, _+_, _-_, _≤_, _<_, arith, length, leb-true, lt-ltb, le-ltb}
 use Rattle.fields.specs.Part.{inside, part}
 use Rattle.encint.specs.Encint.{encintAt}
 use Rattle.encint.specs.declared.Number.the-variants.{Value, Bad}

@@ -1,12 +1,5 @@
 -- What the call answers and writes, from its checks.
-use mathlib.Core.Path.{_≡_, refl, ap, _∙_}
-use mathlib.Core.Bool.{Bool, true, false, cond}
-use mathlib.Core.List.{List, [], _∷_, _++_, flatMap}
-use Prim.Native.Nat.{ℕ, _+_, _*_, _/_, _≤_, _<_}
-use native.Mathlib.Omega.{arith}
-use lib.ListN.{length}
-use lib.Seq.{sets}
-use borrow.Author.Tests.{le-leb, lt-leb}
+use Rattle.fields.proofs.Base.{_≡_, refl, ap, _∙_, Bool, true, false, cond, List, [], _∷_, _++_, flatMap, ℕ, _+_, _*_, _/_, _≤_, _<_, arith, length, sets, le-leb, lt-leb}
 use Rattle.refusals.specs.Refusals.{refusalOf}
 use Rattle.refusals.specs.declared.Refusal.{Refusal}
 use Rattle.header.specs.declared.Record.{Record}

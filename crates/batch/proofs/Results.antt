@@ -1,10 +1,5 @@
 -- The answers as they are written: those of the names that are left make the whole.
-use mathlib.Core.Path.{_≡_, refl, sym, ap, _∙_}
-use mathlib.Core.List.{List, [], _∷_, _++_, flatMap, append-nil, append-assoc}
-use Prim.Native.Nat.{ℕ, _+_, _-_, _*_, _≤_, _<_}
-use native.Mathlib.Omega.{arith}
-use lib.ListN.{length, length-append}
-use lib.Seq.{sets, length-sets}
+use Rattle.fields.proofs.Base.{_≡_, refl, sym, ap, _∙_, List, [], _∷_, _++_, flatMap, append-nil, append-assoc, ℕ, _+_, _-_, _*_, _≤_, _<_, arith, length, length-append, sets, length-sets}
 use Rattle.fields.specs.Le.{bytes}
 use Rattle.fields.specs.Part.{part}
 use Rattle.fields.specs.Put.{put}

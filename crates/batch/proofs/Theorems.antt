@@ -3,16 +3,7 @@
 --     batch-rest      the bytes behind the answers are as they were
 --     batch-status    a status is 0, 255 or 15
 --     batch-refusal   a refusal is opening's, or 22 with no chunk
-use mathlib.Core.Path.{_≡_, refl, sym, ap, _∙_}
-use mathlib.Core.Logic.{_⊎_, inl, inr}
-use mathlib.Core.Bool.{Bool, true, false, cond}
-use mathlib.Core.List.{List, [], _∷_, _++_, flatMap, append-assoc}
-use Prim.Native.Nat.{ℕ, zero, suc, _+_, _*_, _≤_, _<_}
-use native.Mathlib.Omega.{arith}
-use lib.ListN.{length, getD, take, drop, length-append}
-use lib.Seq.{sets, sets-eq, take-at, drop-at, drop-append-add}
-use lib.Dec.{leb}
-use borrow.Author.Tests.{leb-true}
+use Rattle.fields.proofs.Base.{_≡_, refl, sym, ap, _∙_, _⊎_, inl, inr, Bool, true, false, cond, List, [], _∷_, _++_, flatMap, append-assoc, ℕ, zero, suc, _+_, _*_, _≤_, _<_, arith, length, getD, take, drop, length-append, sets, sets-eq, take-at, drop-at, drop-append-add, leb, leb-true}
 use Rattle.fields.specs.Part.{part}
 use Rattle.fields.proofs.Tests.{and-both}
 use Rattle.refusals.specs.Refusals.{refusalOf}

@@ -1,12 +1,5 @@
 -- What a chunk number leads to tells of the chunk: whether it is below the count and of a kind, and its links.
-use mathlib.Core.Path.{_≡_, refl, sym, ap, _∙_}
-use mathlib.Core.Logic.{inl, inr}
-use mathlib.Core.Bool.{Bool, true, false, cond, _&&_}
-use mathlib.Core.List.{List, [], _∷_}
-use Prim.Native.Nat.{ℕ, _<_}
-use native.Mathlib.Omega.{arith}
-use lib.Dec.{ltb}
-use borrow.Author.Tests.{lt-ltb}
+use Rattle.fields.proofs.Base.{_≡_, refl, sym, ap, _∙_, inl, inr, Bool, true, false, cond, _&&_, List, [], _∷_, ℕ, _<_, arith, ltb, lt-ltb}
 use types.Run.{OneOf}
 use denote.Enum.Declared.{tagOf}
 use Rattle.entries.specs.declared.Kind.{Kind}

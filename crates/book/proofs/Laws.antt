@@ -1,13 +1,5 @@
 -- A chunk that has its 4,096 bytes lies inside the file; what a record that can be asked has.
-use mathlib.Core.Path.{_≡_, refl, sym, ap, _∙_}
-use mathlib.Core.Bool.{true, _&&_}
-use mathlib.Core.List.{List}
-use Prim.Native.Nat.{ℕ, _+_, _≤_, _<_}
-use native.Mathlib.Omega.{arith}
-use native.Mathlib.Decide.{decLe}
-use lib.ListN.{length, getD}
-use lib.Dec.{leb, lit<}
-use borrow.Author.Tests.{le-leb, leb-true}
+use Rattle.fields.proofs.Base.{_≡_, refl, sym, ap, _∙_, true, _&&_, List, ℕ, _+_, _≤_, _<_, arith, decLe, length, getD, leb, lit<, le-leb, leb-true}
 use Rattle.fields.proofs.Tests.{and-both}
 use Rattle.fields.specs.Part.{part, partOf}
 use Rattle.fields.proofs.Parts.{length-part, part-inside, part-outside, part-small, part-within}

@@ -1,18 +1,13 @@
 -- The entries of a listing chunk that passed its check, as they are read: their count, each behind the one before it.
-use mathlib.Core.Path.{_≡_, sym, ap, _∙_}
-use mathlib.Core.Bool.{true}
-use mathlib.Core.List.{List, _∷_}
-use Prim.Native.Nat.{ℕ, zero, suc, _+_, _-_, _≤_, _<_}
-use native.Mathlib.Omega.{arith}
-use lib.ListN.{length, drop}
-use lib.Seq.{drop-drop}
-use Rattle.entries.specs.Entry.{itemAt}
+use Rattle.fields.proofs.Base.{_≡_, sym, ap, _∙_, true, List, _∷_, ℕ, zero, suc, _+_, _-_, _≤_, _<_, arith, length, drop, drop-drop}
+use Rattle.entries.specs.Entry.{itemAt, Entry, entryOf}
 use Rattle.entries.specs.declared.Limits.{Limits}
 use Rattle.entries.specs.declared.Place.{Place}
 use Rattle.entries.specs.declared.Item.the-variants.{Good}
 use Rattle.entries.proofs.Laws.{item-inside}
 use Rattle.entries.specs.declared.Kind.the-variants.{Listing}
-use Rattle.chunk.specs.Chunk.{Entry, all, entryOf, entriesAt, entryCount, tailLength, entriesIn, firstPlace}
+use Rattle.chunk.specs.Chunk.{all, entriesAt, entriesIn}
+use Rattle.chunk_fields.specs.ChunkFields.{entryCount, tailLength, firstPlace}
 use Rattle.chunk.proofs.Accepted.{Accepted, chunk-accepted, entries-more, entries-count}
 use Rattle.header.specs.declared.Record.{Record}
 use Rattle.tree.specs.Shape.{isListing}

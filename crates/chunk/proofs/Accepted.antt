@@ -1,15 +1,8 @@
 -- What a good chunk is, over its bytes: `chunk-accepted`, and by its tag and its links `good-made`.
-use mathlib.Core.Path.{_≡_, refl, sym, ap, subst, _∙_}
-use mathlib.Core.List.{List, [], _∷_}
-use mathlib.Core.Bool.{Bool, true, false, cond, _&&_}
-use Prim.Native.Nat.{ℕ, zero, suc, _+_, _-_, _*_, _≤_, _<_}
-use native.Mathlib.Omega.{arith}
-use lib.ListN.{length}
-use lib.Dec.{ltb, leb, eqb}
-use borrow.Author.Tests.{eqb-true, leb-true, ltb-true}
+use Rattle.fields.proofs.Base.{_≡_, refl, sym, ap, subst, _∙_, List, [], _∷_, Bool, true, false, cond, _&&_, ℕ, zero, suc, _+_, _-_, _*_, _≤_, _<_, arith, length, ltb, leb, eqb, eqb-true, leb-true, ltb-true}
 use Rattle.fields.specs.Same.{standsAt}
 use Rattle.fields.proofs.Tests.{never, and-both}
-use Rattle.entries.specs.Entry.{itemAt, withItem}
+use Rattle.entries.specs.Entry.{itemAt, withItem, Entry, entryOf, entryName}
 use Rattle.entries.specs.declared.Limits.{Limits}
 use Rattle.entries.specs.declared.Place.{Place}
 use Rattle.entries.specs.declared.Item.{Item}
@@ -17,7 +10,8 @@ use Rattle.entries.specs.declared.Item.the-variants.{Good, Bad}
 use Rattle.entries.specs.declared.Kind.{Kind}
 use Rattle.entries.specs.declared.Kind.the-variants.{Listing, Index}
 use Rattle.entries.specs.Rising.{rising}
-use Rattle.chunk.specs.Chunk.{Entry, Entries, broken, all, Parsed, bad, tagOf, parsedWith, entryThen, entryOf, entriesAt, quick, quickCount, firstPlace, entryCount, tailLength, spacingOf, framed, checkedEntries, parsedAs, parsed, entriesIn, isKind, entryName, kindOf, isGood}
+use Rattle.chunk.specs.Chunk.{Entries, broken, all, Parsed, bad, parsedWith, entryThen, entriesAt, quick, framed, checkedEntries, parsedAs, parsed, entriesIn, isKind, isGood}
+use Rattle.chunk_fields.specs.ChunkFields.{tagOf, quickCount, firstPlace, entryCount, tailLength, spacingOf, kindOf}
 
 -- ---- as many entries as were asked for
 

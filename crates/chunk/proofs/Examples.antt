@@ -1,8 +1,5 @@
 -- The chunk of the sample book (FORMAT W16) means what its entries say; and how many quick words there are at density 2 (FORMAT C14).
-use mathlib.Core.Path.{_≡_, refl}
-use mathlib.Core.List.{List, [], _∷_, _++_}
-use Prim.Native.Nat.{ℕ}
-use lib.ListN.{replicate}
+use Rattle.fields.proofs.Base.{_≡_, refl, List, [], _∷_, _++_, ℕ, replicate}
 use Rattle.fields.specs.Le.{le}
 use Rattle.fields.specs.Same.{same, standsAt}
 use Rattle.encint.specs.Encint.{rest, decoded, encintAt}
@@ -11,7 +8,8 @@ use Rattle.names.specs.Names.{folded, compared, below}
 use Rattle.entries.specs.Entry.{nameAt, listingAt, itemAt}
 use Rattle.entries.specs.declared.Limits.{Limits}
 use Rattle.entries.specs.Rising.{rising}
-use Rattle.chunk.specs.Chunk.{listing, spacingOf, quickCount, entriesAt, quick, quickAt, framed, checkedEntries, parsedAs, parsed}
+use Rattle.chunk.specs.Chunk.{listing, entriesAt, quick, quickAt, framed, checkedEntries, parsedAs, parsed}
+use Rattle.chunk_fields.specs.ChunkFields.{spacingOf, quickCount}
 
 unfoldable pub sample : List ℕ
 sample =

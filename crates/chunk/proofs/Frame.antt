@@ -1,14 +1,10 @@
 -- A chunk of a known kind, over the numbers that were read; the spacing of a high density may be exchanged.
-use mathlib.Core.Path.{_≡_, refl}
-use mathlib.Core.List.{List}
-use mathlib.Core.Bool.{cond, _&&_}
-use Prim.Native.Nat.{ℕ, _+_, _-_, _*_, _≤_, _<_, min}
-use native.Mathlib.Omega.{arith}
-use lib.Dec.{ltb, leb}
+use Rattle.fields.proofs.Base.{_≡_, refl, List, cond, _&&_, ℕ, _+_, _-_, _*_, _≤_, _<_, min, arith, ltb, leb}
 use Rattle.entries.specs.declared.Limits.{Limits}
 use Rattle.entries.specs.declared.Kind.{Kind}
 use Rattle.entries.specs.declared.Kind.the-variants.{Listing, Index}
-use Rattle.chunk.specs.Chunk.{Entries, broken, all, bad, entriesAt, firstPlace, entryCount, quickCount, tailLength, spacingOf, framed, checkedEntries, parsedAs}
+use Rattle.chunk.specs.Chunk.{Entries, broken, all, bad, entriesAt, framed, checkedEntries, parsedAs}
+use Rattle.chunk_fields.specs.ChunkFields.{firstPlace, entryCount, quickCount, tailLength, spacingOf}
 use Rattle.chunk.proofs.Accepted.{entries-count}
 use Rattle.chunk.proofs.Quick.{Alike, quick-alike, capped}
 

@@ -1,16 +1,11 @@
 -- Quick words: an entry's index by words and entries past a word; the spacing that the code uses for a high density; each word on its own.
-use mathlib.Core.Path.{_≡_, refl, sym, ap, _∙_}
-use mathlib.Core.List.{List, [], _∷_}
-use mathlib.Core.Bool.{true, or-true}
-use Prim.Native.Nat.{ℕ, zero, suc, _+_, _*_, _/_, _%_, _≤_, _<_, min}
-use native.Mathlib.Omega.{arith}
-use native.Mathlib.Decide.{decLt, ℕ-discrete}
-use native.Mathlib.Nat.{add-zero, mul-add-div-right, mul-add-mod-self-right, div-eq-of-lt, mod-eq-of-lt, le-div-iff-mul-le, le-trans, div-mul-le-self, mul-pos, mul-div-cancel, mul-mod-left, pow-le-pow-right}
-use lib.Dec.{eqb, lit<}
-use lib.ListN.{length, getD}
-use borrow.Author.Tests.{eqb-true, eq-eqb, ne-eqb, lt-ltb, le-ltb}
+use Rattle.fields.proofs.Base.{_≡_, refl, sym, ap, _∙_, List, [], _∷_, true, ℕ, zero, suc, _+_, _*_, _/_, _%_, _≤_, _<_, min, arith, decLt, ℕ-discrete, add-zero, div-eq-of-lt, mod-eq-of-lt, le-div-iff-mul-le, pow-le-pow-right, eqb, lit<, length, getD, eqb-true, eq-eqb, ne-eqb, lt-ltb, le-ltb}
+use mathlib.Core.Bool.{or-true}
+use native.Mathlib.Nat.{mul-add-div-right, mul-add-mod-self-right, le-trans, div-mul-le-self, mul-pos, mul-div-cancel, mul-mod-left}
 use Rattle.fields.proofs.Tests.{and-both}
-use Rattle.chunk.specs.Chunk.{Entry, quick, quickAt, quickWord, spacingOf}
+use Rattle.entries.specs.Entry.{Entry}
+use Rattle.chunk.specs.Chunk.{quick, quickAt}
+use Rattle.chunk_fields.specs.ChunkFields.{quickWord, spacingOf}
 use Rattle.chunk.specs.Marks.{markRight}
 
 -- ---- an index as word * n + past

@@ -4,21 +4,18 @@
 --     turn        an entry that was read moves it on
 --     turn-bad    what is no entry settles it
 --     at-end      behind the last entry it is read off the flags
-use mathlib.Core.Path.{_≡_, refl, sym, ap, _∙_}
-use mathlib.Core.List.{List, []}
-use mathlib.Core.Bool.{Bool, true, false, cond, _&&_, and-assoc}
-use Prim.Native.Nat.{ℕ, suc, _+_, _-_, _≤_, _<_}
-use native.Mathlib.Omega.{arith}
-use lib.Dec.{eqb}
+use Rattle.fields.proofs.Base.{_≡_, refl, sym, ap, _∙_, List, [], Bool, true, false, cond, _&&_, ℕ, suc, _+_, _-_, _≤_, _<_, arith, eqb}
+use mathlib.Core.Bool.{and-assoc}
 use Rattle.names.specs.Names.{below}
-use Rattle.entries.specs.Entry.{itemAt, nameOf}
+use Rattle.entries.specs.Entry.{itemAt, nameOf, Entry, entryOf, entryName}
 use Rattle.entries.specs.declared.Limits.{Limits}
 use Rattle.entries.specs.declared.Place.{Place}
 use Rattle.entries.specs.declared.Item.the-variants.{Good, Bad}
 use Rattle.entries.specs.declared.Kind.{Kind}
 use Rattle.entries.specs.declared.Kind.the-variants.{Listing, Index}
 use Rattle.entries.specs.Rising.{rising}
-use Rattle.chunk.specs.Chunk.{Entry, Entries, broken, all, bad, parsedWith, entryThen, entryOf, entriesAt, quick, quickAt, firstPlace, checkedEntries, entryName}
+use Rattle.chunk.specs.Chunk.{Entries, broken, all, bad, parsedWith, entryThen, entriesAt, quick, quickAt, checkedEntries}
+use Rattle.chunk_fields.specs.ChunkFields.{firstPlace}
 use Rattle.chunk.specs.Answer.{chunkOf}
 use Rattle.chunk.specs.declared.Chunk.{Chunk}
 use Rattle.chunk.specs.declared.Chunk.the-variants.{Refused}

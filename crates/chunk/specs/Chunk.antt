@@ -1,33 +1,18 @@
 -- The meaning of a chunk's bytes: what the rules on a chunk by itself make of them (FORMAT, Chunk).
-use Prim.Native.Nat.{ℕ, zero, suc, _+_, _-_, _*_, _/_, _%_, _^_}
+use Prim.Native.Nat.{ℕ, zero, suc, _+_, _-_, _*_, _/_, _%_}
 use mathlib.Core.List.{List, [], _∷_}
 use mathlib.Core.Bool.{Bool, true, false, cond, _&&_, _||_}
 use lib.ListN.{length}
 use lib.Dec.{ltb, leb, eqb}
-use Rattle.fields.specs.Le.{le}
 use Rattle.fields.specs.Same.{standsAt}
-use Rattle.entries.specs.Entry.{withItem, itemAt, nameOf}
+use Rattle.entries.specs.Entry.{withItem, itemAt, Entry, entryName, entryOf}
 use Rattle.entries.specs.Rising.{rising}
+use Rattle.chunk_fields.specs.ChunkFields.{tagOf, firstPlace, entryCount, tailLength, previousLink, nextLink, spacingOf, quickCount, quickWord}
 use Rattle.entries.specs.declared.Limits.{Limits}
-use Rattle.entries.specs.declared.Place.{Place}
 use Rattle.entries.specs.declared.Kind.{Kind}
 use Rattle.entries.specs.declared.Kind.the-variants.{Listing, Index}
 
 -- ---- what a chunk can mean
-
--- an entry: its place in the chunk, its name's place and bytes, its numbers (those that its kind lacks are 0), the place behind it
-pub record Entry : Type 0 where
-  pub at : ℕ
-  pub start : ℕ
-  pub name : List ℕ
-  pub section : ℕ
-  pub offset : ℕ
-  pub size : ℕ
-  pub child : ℕ
-  pub next : ℕ
-
-abbrev pub entryName : Entry → List ℕ
-entryName e = e .name
 
 -- `bad` has the refusal's number, `listing` the previous and the next listing chunk
 pub data Parsed : Type 0 where
@@ -35,48 +20,7 @@ pub data Parsed : Type 0 where
   listing : ℕ → ℕ → List Entry → Parsed
   index : List Entry → Parsed
 
--- ---- the fixed parts
-
--- `PMGL` and `PMGI` (C1, C2)
-abbrev pub tagOf : Kind → List ℕ
-tagOf Listing = 0x50 ∷ 0x4D ∷ 0x47 ∷ 0x4C ∷ []
-tagOf Index = 0x50 ∷ 0x4D ∷ 0x47 ∷ 0x49 ∷ []
-
--- the kind of a chunk that is of one of the two
-abbrev pub kindOf : List ℕ → Kind
-kindOf s = cond (standsAt s 0 (tagOf Listing)) Listing Index
-
--- the length of the header, behind which the first entry stands (C1, C2, C3)
-abbrev pub firstPlace : Kind → ℕ
-firstPlace Listing = 20
-firstPlace Index = 8
-
--- where the count of entries stands: the chunk's last 16 bits (C4)
-abbrev pub countPlace : ℕ
-countPlace = 4094
-
--- the count of entries
-abbrev pub entryCount : List ℕ → ℕ
-entryCount s = le 2 s countPlace
-
--- the length of the tail
-abbrev pub tailLength : List ℕ → ℕ
-tailLength s = le 4 s 4
-
--- of a listing chunk, the number of the one before it and of the one behind it (C1)
-abbrev pub previousLink : List ℕ → ℕ
-previousLink s = le 4 s 12
-
-abbrev pub nextLink : List ℕ → ℕ
-nextLink s = le 4 s 16
-
--- how many entries there are from one that has a quick word to the next
-abbrev pub spacingOf : ℕ → ℕ
-spacingOf density = 1 + 2 ^ density
-
--- how many quick words c entries have
-abbrev pub quickCount : ℕ → ℕ → ℕ
-quickCount n c = (c - 1) / n
+-- ---- the parts around the entries
 
 -- there is an entry; the tail has room for the count and the quick words, and leaves room for the header: refusal 9
 unfoldable pub framed : ℕ → Kind → List ℕ → Bool
@@ -89,11 +33,6 @@ pub data Entries : Type 0 where
   broken : Entries
   all : List Entry → Entries
 
--- the entry at a place, with its name's bytes
-abbrev pub entryOf : List ℕ → Place → Entry
-entryOf s e =
-    record { at = e .at; start = e .start; name = nameOf s e; section = e .section; offset = e .offset; size = e .size; child = e .child; next = e .next }
-
 abbrev pub entryThen : Entry → Entries → Entries
 entryThen e broken = broken
 entryThen e (all es) = all (e ∷ es)
@@ -104,13 +43,6 @@ entriesAt limits k s end zero at = cond (eqb at end) (all []) broken
 entriesAt limits k s end (suc n) at = withItem (itemAt limits k s at) broken (λ e. entryThen (entryOf s e) (entriesAt limits k s end n (e .next)))
 
 -- ---- the quick words: refusal 11
-
--- where word k stands, from 1 on: backward from the count, two bytes apart (C7)
-abbrev pub quickPlace : ℕ → ℕ
-quickPlace k = countPlace - 2 * k
-
-abbrev pub quickWord : List ℕ → ℕ → ℕ
-quickWord s k = le 2 s (quickPlace k)
 
 -- entry i, which stands at a place, has a quick word where i is a multiple of n other than 0: word i / n, its distance from the first entry
 unfoldable pub quickAt : List ℕ → ℕ → ℕ → ℕ → ℕ → Bool

@@ -3,7 +3,7 @@ use Prim.Native.Nat.{ℕ, _+_}
 use mathlib.Core.Bool.{Bool, _||_}
 use mathlib.Core.List.{List}
 use lib.Dec.{ltb, eqb}
-use Rattle.chunk.specs.Chunk.{quickWord}
+use Rattle.chunk_fields.specs.ChunkFields.{quickWord}
 
 -- the entry that stands at a place is entry word * n + past, with past below n: it stands where its quick word says, if it has one
 abbrev pub markRight : List ℕ → ℕ → ℕ → ℕ → ℕ → Bool

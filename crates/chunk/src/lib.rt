@@ -2,12 +2,12 @@
 ghost use mathlib.Core.Path.{_≡_};
 ghost use mathlib.Core.List.{[]};
 ghost use mathlib.Core.Bool.{_&&_};
-ghost use Prim.Native.Nat.{_+_, _-_, _*_, _/_, _<_, _≤_, min};
+ghost use Prim.Native.Nat.{_+_, _-_, _*_, _/_, _<_, _≤_};
 ghost use lib.ListN.{length};
 ghost use Rattle.fields.specs.Part.{part};
 ghost use Rattle.names.specs.Names.{below};
-ghost use Rattle.fields.specs.Same.{standsAt};
-ghost use Rattle.chunk.specs.Chunk.{tagOf, kindOf, firstPlace, entryCount, previousLink, nextLink, quickPlace, spacingOf, quickCount, entriesAt, parsedWith, checkedEntries, parsedAs, parsed};
+ghost use Rattle.chunk_fields.specs.ChunkFields.{firstPlace, spacingOf, quickCount};
+ghost use Rattle.chunk.specs.Chunk.{entriesAt, parsedWith, checkedEntries, parsedAs, parsed};
 ghost use Rattle.chunk.specs.Marks.{markRight};
 ghost use Rattle.chunk.specs.Answer.{chunkOf};
 use entries::Item;
@@ -21,90 +21,10 @@ pub enum Chunk {
     Index,
 }
 
-// The tags of both kinds as numbers of 32 bits.
-pub const LISTING_TAG: u32 = 0x4C47_4D50;
-
-pub const INDEX_TAG: u32 = 0x4947_4D50;
-
-// Where the number of entries stands.
-pub const COUNT_PLACE: usize = 4094;
-
 // An entry's index as a number of quick words, and how many entries it stands behind the last that has one.
 struct Mark {
     word: usize,
     past: usize,
-}
-
-// Whether the tag of a kind stands at the beginning.
-fn has_tag(c: &[u8], kind: Kind) -> bool
-    ensures { λ r. ⌜ r ≡ standsAt (now (c .entry)) 0 (tagOf kind) ⌝ }
-{
-    match kind {
-        Kind::Listing => fields::stands_at(c, 0, b"PMGL"),
-        Kind::Index => fields::stands_at(c, 0, b"PMGI"),
-    }
-}
-
-// The kind of a chunk that is of one of the two, by its tag.
-pub fn kind_of(c: &[u8]) -> Kind
-    ensures { λ r. ⌜ r ≡ kindOf (now (c .entry)) ⌝ }
-{
-    if has_tag(c, Kind::Listing) {
-        return Kind::Listing;
-    }
-    Kind::Index
-}
-
-// Where the first entry stands, which is behind the header.
-pub fn first_place(kind: Kind) -> usize
-    ensures { λ r. ⌜ r ≡ firstPlace kind ⌝ }
-{
-    match kind {
-        Kind::Listing => 20,
-        Kind::Index => 8,
-    }
-}
-
-// The number of entries, as stored.
-pub fn entry_count(c: &[u8]) -> u16
-    ensures { λ r. ⌜ r ≡ entryCount (now (c .entry)) ⌝ }
-{
-    fields::le16(c, COUNT_PLACE)
-}
-
-// The number of the listing chunk before this one, as stored.
-pub fn previous_link(c: &[u8]) -> u32
-    ensures { λ r. ⌜ r ≡ previousLink (now (c .entry)) ⌝ }
-{
-    fields::le32(c, 12)
-}
-
-// The number of the listing chunk behind this one, as stored.
-pub fn next_link(c: &[u8]) -> u32
-    ensures { λ r. ⌜ r ≡ nextLink (now (c .entry)) ⌝ }
-{
-    fields::le32(c, 16)
-}
-
-// Where quick word k stands.
-pub fn quick_place(k: usize) -> usize
-    ensures { λ r. ⌜ r ≡ quickPlace k ⌝ }
-{
-    if 2047 < k {
-        return 0;
-    }
-    COUNT_PLACE - 2 * k
-}
-
-// The number of entries from one that has a quick word to the next. From density 16 on it is above every count of 16 bits, so that there is no quick word.
-pub fn spacing(density: u64) -> usize
-    ensures { λ r. ⌜ r ≡ spacingOf (min density 16) ⌝ }
-{
-    if density < 16 {
-        1 + (1usize << density)
-    } else {
-        65537
-    }
 }
 
 // How many quick words `total` entries have.
@@ -157,7 +77,7 @@ fn still_quick(c: &[u8], quick: bool, first: usize, m: Mark, at: usize) -> bool
         if m.word == 0 {
             return true;
         }
-        let word = fields::le16(c, quick_place(m.word)) as usize;
+        let word = fields::le16(c, chunk_fields::quick_place(m.word)) as usize;
         return first + word == at;
     }
     false
@@ -168,7 +88,7 @@ fn good_chunk(c: &[u8], kind: Kind) -> Chunk
     ensures { λ r. ⌜ r ≡ chunkOf (parsedWith kind (now (c .entry)) []) ⌝ }
 {
     match kind {
-        Kind::Listing => Chunk::Listing(previous_link(c), next_link(c)),
+        Kind::Listing => Chunk::Listing(chunk_fields::previous_link(c), chunk_fields::next_link(c)),
         Kind::Index => Chunk::Index,
     }
 }
@@ -178,7 +98,7 @@ fn check_entries(c: &[u8], limits: Limits, kind: Kind, n: usize, total: usize, e
     requires { ⌜ (0 < n) × (2 * ((total - 1) / n) ≤ 4094) ⌝ }
     ensures { λ r. ⌜ r ≡ chunkOf (checkedEntries n kind (now (c .entry)) (entriesAt limits kind (now (c .entry)) end total (firstPlace kind))) ⌝ }
 {
-    let first = first_place(kind);
+    let first = chunk_fields::first_place(kind);
     let mut at = first;
     let mut from: usize = 0;
     let mut len: usize = 0;
@@ -215,16 +135,16 @@ fn check_kind(c: &[u8], limits: Limits, kind: Kind) -> Chunk
     requires { ⌜ length (now c) ≡ 4096 ⌝ }
     ensures { λ r. ⌜ r ≡ chunkOf (parsedAs (spacingOf (limits .density)) limits kind (now (c .entry))) ⌝ }
 {
-    let n = spacing(limits.density);
-    let total = entry_count(c) as usize;
-    let tail = fields::le32(c, 4) as usize;
+    let n = chunk_fields::spacing(limits.density);
+    let total = chunk_fields::entry_count(c) as usize;
+    let tail = chunk_fields::tail_length(c) as usize;
     if total < 1 {
         return Chunk::Refused(9);
     }
     if tail < 2 + 2 * quick_words(total, n) {
         return Chunk::Refused(9);
     }
-    if 4096 - first_place(kind) < tail {
+    if 4096 - chunk_fields::first_place(kind) < tail {
         return Chunk::Refused(9);
     }
     check_entries(c, limits, kind, n, total, 4096 - tail)
@@ -237,10 +157,10 @@ pub fn check(c: &[u8], limits: Limits) -> Chunk
     if c.len() != 4096 {
         return Chunk::Refused(8);
     }
-    if has_tag(c, Kind::Listing) {
+    if chunk_fields::has_tag(c, Kind::Listing) {
         return check_kind(c, limits, Kind::Listing);
     }
-    if has_tag(c, Kind::Index) {
+    if chunk_fields::has_tag(c, Kind::Index) {
         return check_kind(c, limits, Kind::Index);
     }
     Chunk::Refused(8)

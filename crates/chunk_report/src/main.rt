@@ -74,12 +74,12 @@ fn report(c: &[u8], limits: Limits) {
             io::write_all(STDOUT_FILENO, b"L");
             number(previous as u64);
             number(next as u64);
-            number(chunk::entry_count(c) as u64);
+            number(chunk_fields::entry_count(c) as u64);
             searches(c, limits, Kind::Listing);
         }
         Chunk::Index => {
             io::write_all(STDOUT_FILENO, b"I");
-            number(chunk::entry_count(c) as u64);
+            number(chunk_fields::entry_count(c) as u64);
             searches(c, limits, Kind::Index);
         }
     }

@@ -1,9 +1,5 @@
 -- What is read along the chain of a book that opens: all its entries, to the end, in the order of their names; and they are few.
-use mathlib.Core.Path.{_≡_, sym, ap, _∙_}
-use mathlib.Core.List.{List, [], _∷_, map}
-use Prim.Native.Nat.{ℕ, _<_, _^_}
-use native.Mathlib.Omega.{arith}
-use lib.ListN.{length, length-map}
+use Rattle.fields.proofs.Base.{_≡_, sym, ap, _∙_, List, [], _∷_, map, ℕ, _<_, _^_, arith, length, length-map}
 use Rattle.chunk.specs.Chunk.{Parsed}
 use Rattle.header.specs.declared.Record.{Record}
 use Rattle.header.proofs.Accepted.{header-accepted}

@@ -1,8 +1,5 @@
 -- What one name gives, by what comes next in each book: one law for each case of the course.
-use mathlib.Core.Path.{_≡_, refl, sym, ap, ap₂, _∙_}
-use mathlib.Core.Bool.{true, false}
-use mathlib.Core.List.{List}
-use Prim.Native.Nat.{ℕ}
+use Rattle.fields.proofs.Base.{_≡_, refl, sym, ap, ap₂, _∙_, true, false, List, ℕ}
 use Rattle.refusals.specs.declared.Refusal.{Refusal}
 use Rattle.names.specs.Names.{compared}
 use Rattle.names.specs.declared.Order.the-variants.{Less, Equal, Greater}

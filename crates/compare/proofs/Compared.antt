@@ -1,10 +1,5 @@
 -- What a comparison of two books that open is worth: `books-compared`.
-use mathlib.Core.Path.{_≡_, refl, sym, ap, subst, _∙_}
-use mathlib.Core.Bool.{true}
-use mathlib.Core.List.{List}
-use Prim.Native.Nat.{ℕ}
-use native.Mathlib.Omega.{arith}
-use lib.ListN.{length}
+use Rattle.fields.proofs.Base.{_≡_, refl, sym, ap, subst, _∙_, true, List, ℕ, arith, length}
 use Rattle.header.specs.declared.Record.{Record}
 use Rattle.tree.specs.Chain.{chainEntries}
 use Rattle.tree.specs.Reading.{Reading}

@@ -1,8 +1,5 @@
 -- How many names a step may go over is no limit: any number above what the first walk can still come to gives the same step.
-use mathlib.Core.Path.{_≡_, refl, sym, _∙_}
-use mathlib.Core.List.{List}
-use Prim.Native.Nat.{ℕ, zero, suc, _<_}
-use native.Mathlib.Omega.{arith}
+use Rattle.fields.proofs.Base.{_≡_, refl, sym, _∙_, List, ℕ, zero, suc, _<_, arith}
 use Rattle.header.specs.declared.Record.{Record}
 use Rattle.walk.specs.Walk.{weight}
 use Rattle.compare.specs.Compare.{turned, stepFrom, compareStep}

@@ -1,10 +1,5 @@
 -- A comparison is exact, whatever the bytes and the records are: the steps from its start tell the differences of its course, and then how it ends.
-use mathlib.Core.Path.{_≡_, refl, sym, ap, subst, _∙_}
-use mathlib.Core.Logic.{_⊎_, inl, inr, ⊎-elim, _≢_}
-use mathlib.Core.List.{List, [], _∷_, _++_}
-use Prim.Native.Nat.{ℕ, zero, suc, _<_}
-use native.Mathlib.Omega.{arith}
-use lib.ListN.{length, take}
+use Rattle.fields.proofs.Base.{_≡_, refl, sym, ap, subst, _∙_, _⊎_, inl, inr, ⊎-elim, _≢_, List, [], _∷_, _++_, ℕ, zero, suc, _<_, arith, length, take}
 use lib.Seq.{take-nil}
 use Rattle.refusals.specs.declared.Refusal.{Refusal}
 use Rattle.header.specs.declared.Record.{Record}

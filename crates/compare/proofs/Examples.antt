@@ -1,8 +1,5 @@
 -- Two small readings side by side: names that differ only in case are one name, and case alone is no difference.
-use mathlib.Core.Path.{_≡_, refl}
-use mathlib.Core.Bool.{true}
-use mathlib.Core.List.{List, [], _∷_}
-use Prim.Native.Nat.{ℕ}
+use Rattle.fields.proofs.Base.{_≡_, refl, true, List, [], _∷_, ℕ}
 use Rattle.names.specs.Order.{byNumber, byElement}
 use Rattle.names.specs.Names.{folded, compared}
 use Rattle.tree.specs.Reading.{Held, heldAt}

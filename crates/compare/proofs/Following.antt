@@ -1,9 +1,5 @@
 -- The steps of a comparison follow its course: a run of steps tells the differences of what two walks read, and then how it ends.
-use mathlib.Core.Path.{_≡_, refl, ap, _∙_}
-use mathlib.Core.Bool.{Bool, true, false, cond}
-use mathlib.Core.List.{List, [], _∷_, map}
-use Prim.Native.Nat.{ℕ, suc, _-_, _<_}
-use native.Mathlib.Omega.{arith}
+use Rattle.fields.proofs.Base.{_≡_, refl, ap, _∙_, Bool, true, false, cond, List, [], _∷_, map, ℕ, suc, _-_, _<_, arith}
 use Rattle.refusals.specs.Refusals.{refusalOf}
 use Rattle.names.specs.Names.{compared}
 use Rattle.names.specs.declared.Order.{Order}

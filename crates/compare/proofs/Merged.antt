@@ -1,7 +1,5 @@
 -- Two lists side by side, both to their ends, step by step (`Merges`); so the course ends well, and each entry of each list comes once, in its order.
-use mathlib.Core.Path.{_≡_, refl, ap}
-use mathlib.Core.Bool.{true}
-use mathlib.Core.List.{List, [], _∷_}
+use Rattle.fields.proofs.Base.{_≡_, refl, ap, true, List, [], _∷_}
 use Rattle.names.specs.Names.{compared}
 use Rattle.names.specs.declared.Order.{Order}
 use Rattle.names.specs.declared.Order.the-variants.{Less, Equal, Greater}

@@ -1,8 +1,5 @@
 -- The pairs of two lists that rise: what each is made of, and that their names rise, so that each name comes once.
-use mathlib.Core.Path.{_≡_, refl, sym, subst}
-use mathlib.Core.Logic.{inl, inr}
-use mathlib.Core.Bool.{true}
-use mathlib.Core.List.{List, [], _∷_}
+use Rattle.fields.proofs.Base.{_≡_, refl, sym, subst, inl, inr, true, List, [], _∷_}
 use Rattle.names.specs.Names.{compared, below}
 use Rattle.names.specs.declared.Order.the-variants.{Equal}
 use Rattle.tree.specs.Lists.{In, Each}

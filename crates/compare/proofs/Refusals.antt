@@ -1,9 +1,5 @@
 -- A step's refusal is 17 of no chunk, beside the number of one of the two books: `step-refusal`.
-use mathlib.Core.Path.{_≡_, refl, subst}
-use mathlib.Core.Logic.{_⊎_}
-use mathlib.Core.Bool.{Bool, true, false, cond}
-use mathlib.Core.List.{List}
-use Prim.Native.Nat.{ℕ, zero, suc}
+use Rattle.fields.proofs.Base.{_≡_, refl, subst, _⊎_, Bool, true, false, cond, List, ℕ, zero, suc}
 use Rattle.refusals.specs.Refusals.{refusalOf}
 use Rattle.refusals.specs.declared.Refusal.{Refusal}
 use Rattle.entries.specs.declared.Place.{Place}

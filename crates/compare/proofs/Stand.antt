@@ -1,8 +1,5 @@
 -- How an entry stands to those of a list that rises, by how it stands to the first.
-use mathlib.Core.Path.{_≡_, ap}
-use mathlib.Core.Logic.{inl, inr}
-use mathlib.Core.Bool.{false}
-use mathlib.Core.List.{List, _∷_}
+use Rattle.fields.proofs.Base.{_≡_, ap, inl, inr, false, List, _∷_}
 use Rattle.names.specs.Order.{isEqual}
 use Rattle.names.specs.Names.{compared, matches}
 use Rattle.names.specs.declared.Order.the-variants.{Less, Equal, Greater}

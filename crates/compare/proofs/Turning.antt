@@ -1,11 +1,6 @@
 -- A step goes from name to name: what one name tells ends it. Each name leaves the two books with fewer entries to come (`turn-falls`, `step-falls`); one with
 -- nothing to tell leaves the first with fewer.
-use mathlib.Core.Path.{_≡_, subst}
-use mathlib.Core.Logic.{⊎-elim}
-use mathlib.Core.Bool.{Bool, true, false, cond}
-use mathlib.Core.List.{List}
-use Prim.Native.Nat.{ℕ, zero, suc, _≤_, _<_}
-use native.Mathlib.Omega.{arith}
+use Rattle.fields.proofs.Base.{_≡_, subst, ⊎-elim, Bool, true, false, cond, List, ℕ, zero, suc, _≤_, _<_, arith}
 use Rattle.entries.specs.declared.Place.{Place}
 use Rattle.header.specs.declared.Record.{Record}
 use Rattle.walk.specs.Walk.{afterOf, comingAt, weight}

@@ -1,8 +1,5 @@
 -- What one name can give, by cases, whatever the bytes, the records and the cursor are: `turn-cases`.
-use mathlib.Core.Path.{_≡_, refl}
-use mathlib.Core.Logic.{_⊎_, inl, inr}
-use mathlib.Core.List.{List}
-use Prim.Native.Nat.{ℕ}
+use Rattle.fields.proofs.Base.{_≡_, refl, _⊎_, inl, inr, List, ℕ}
 use Rattle.names.specs.Names.{compared}
 use Rattle.names.specs.declared.Order.{Order}
 use Rattle.names.specs.declared.Order.the-variants.{Less, Equal, Greater}

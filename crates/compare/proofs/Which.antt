@@ -1,10 +1,5 @@
 -- Which pair a name is in, in two lists that rise: only in the first where the second lacks it, only in the second where the first does, in both where both have it.
-use mathlib.Core.Path.{_≡_, refl, sym, ap, ap₂, _∙_}
-use mathlib.Core.Logic.{inl, inr, ⊎-elim}
-use mathlib.Core.Bool.{true, false}
-use mathlib.Core.List.{List, [], _∷_}
-use Prim.Native.Nat.{ℕ}
-use native.Mathlib.Omega.{arith}
+use Rattle.fields.proofs.Base.{_≡_, refl, sym, ap, ap₂, _∙_, inl, inr, ⊎-elim, true, false, List, [], _∷_, ℕ, arith}
 use Rattle.fields.proofs.Tests.{never}
 use Rattle.names.specs.Names.{matches}
 use Rattle.names.proofs.Laws.{equal-matches}

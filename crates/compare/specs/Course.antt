@@ -4,7 +4,7 @@ use mathlib.Core.Bool.{Bool, false, cond, _&&_}
 use mathlib.Core.List.{List, [], _∷_}
 use lib.Dec.{eqb}
 use Rattle.names.specs.Names.{compared}
-use Rattle.chunk.specs.Chunk.{Entry}
+use Rattle.entries.specs.Entry.{Entry}
 use Rattle.seek.specs.Seek.{byOrder}
 use Rattle.header.specs.declared.Record.{Record}
 use Rattle.tree.specs.Reading.{Held, Reading}

@@ -1,13 +1,9 @@
 -- The loop that writes the entries of a chunk: what holds where some are written (`Putting`), and what a turn finds and leaves.
-use mathlib.Core.Path.{_≡_, refl, sym, ap, ap₂, _∙_}
-use mathlib.Core.List.{List, [], _∷_, _++_, map, flatMap}
-use Prim.Native.Nat.{ℕ, zero, suc, _+_, _-_, _*_, _/_, _≤_, _<_}
-use native.Mathlib.Omega.{arith}
-use lib.ListN.{length, take, drop, replicate, length-append, length-drop, length-map, length-replicate, replicate-append-replicate}
-use lib.Seq.{sets}
+use Rattle.fields.proofs.Base.{_≡_, refl, sym, ap, ap₂, _∙_, List, [], _∷_, _++_, map, flatMap, ℕ, zero, suc, _+_, _-_, _*_, _/_, _≤_, _<_, arith, length, take, drop, replicate, length-append, length-drop, length-map, length-replicate, sets}
+use lib.ListN.{replicate-append-replicate}
 use Rattle.entries.specs.declared.Place.{Place}
 use Rattle.entries.specs.declared.Kind.{Kind}
-use Rattle.chunk.specs.Chunk.{firstPlace, countPlace, quickPlace}
+use Rattle.chunk_fields.specs.ChunkFields.{firstPlace, countPlace, quickPlace}
 use Rattle.chunk.proofs.Frame.{head-small}
 use Rattle.entries.specs.Stored.{Stored, storedOf, entryBytes}
 use Rattle.source.specs.Source.{itemFrom, rowsFrom}

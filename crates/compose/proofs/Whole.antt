@@ -1,19 +1,11 @@
 -- A whole chunk, from what it takes: its entries are there, and with their quick words they have room (`extent-told`); with a header and
 -- a count they are a chunk (`chunk-written`).
-use mathlib.Core.Path.{_≡_, sym, ap, ap₂, subst, _∙_}
-use mathlib.Core.Bool.{true}
-use mathlib.Core.List.{List, [], _++_, append-assoc, append-nil}
-use Prim.Native.Nat.{ℕ, _+_, _-_, _*_, _≤_, _<_}
-use native.Mathlib.Omega.{arith}
-use native.Mathlib.Nat.{zero-div, zero-add}
-use lib.ListN.{length, take, replicate, length-append, length-replicate, length-map}
-use lib.Seq.{sets, length-take-le}
-use borrow.Author.Tests.{le-leb}
+use Rattle.fields.proofs.Base.{_≡_, sym, ap, ap₂, subst, _∙_, true, List, [], _++_, append-assoc, append-nil, ℕ, _+_, _-_, _*_, _≤_, _<_, arith, zero-div, zero-add, length, take, replicate, length-append, length-replicate, length-map, sets, length-take-le, le-leb}
 use Rattle.fields.specs.Le.{bytes}
 use Rattle.fields.proofs.Le.{length-bytes}
 use Rattle.entries.specs.declared.Place.{Place}
 use Rattle.entries.specs.declared.Kind.{Kind}
-use Rattle.chunk.specs.Chunk.{firstPlace, quickCount, countPlace}
+use Rattle.chunk_fields.specs.ChunkFields.{firstPlace, quickCount, countPlace}
 use Rattle.chunk.proofs.Frame.{head-small}
 use Rattle.entries.specs.Stored.{Stored, storedOf}
 use Rattle.source.specs.Source.{rowsFrom}

@@ -6,7 +6,7 @@ use lib.ListN.{length, take, replicate}
 use lib.Dec.{ltb, eqb}
 use Rattle.fields.specs.Le.{bytes}
 use Rattle.entries.specs.declared.Kind.{Kind}
-use Rattle.chunk.specs.Chunk.{firstPlace, quickCount, quickPlace}
+use Rattle.chunk_fields.specs.ChunkFields.{firstPlace, quickCount, quickPlace}
 use Rattle.entries.specs.Stored.{Stored, storedOf}
 use Rattle.source.specs.Source.{rowsFrom}
 use Rattle.compose.specs.NewChunk.{runBytes, quickWords, entriesEnd}

@@ -11,7 +11,7 @@ ghost use Rattle.fields.specs.Part.{inside, part};
 ghost use Rattle.fields.specs.Put.{put};
 ghost use Rattle.encint.specs.Encint.{encoded};
 ghost use Rattle.entries.specs.declared.Kind.the-variants.{Listing};
-ghost use Rattle.chunk.specs.Chunk.{firstPlace, countPlace, quickPlace};
+ghost use Rattle.chunk_fields.specs.ChunkFields.{firstPlace, countPlace, quickPlace};
 ghost use Rattle.entries.specs.Stored.{storedOf, entryBytes};
 ghost use Rattle.source.specs.Source.{rowsFrom};
 ghost use Rattle.pack.specs.Fill.{rowSize, extentFrom};
@@ -121,7 +121,7 @@ fn put_quick_word(out: &mut [u8], i: usize, n: usize, offset: usize)
     if i % n != 0 {
         return;
     }
-    fields::put16(out, chunk::quick_place(i / n), offset as u16);
+    fields::put16(out, chunk_fields::quick_place(i / n), offset as u16);
 }
 
 // Writes the entries from a cursor on, as many as fit, with their quick words into a chunk of zeros. Returns what it took.
@@ -137,7 +137,7 @@ fn put_entries(
     ensures { λ r. ⌜ (r ≡ extentFrom (from .kind) n 0 0 (from .at) (from .left) (rowsFrom content (now (input .entry)) (now (starts .entry)) (from .kind) (from .left) (from .at))) × (now (out .exit) ≡ entriesOnly (from .kind) n (groupFrom content (now (input .entry)) (now (starts .entry)) (from .kind) (from .left) (from .at) (r .count))) ⌝ }
 {
     let kind = from.kind;
-    let first = chunk::first_place(kind);
+    let first = chunk_fields::first_place(kind);
     let mut f = Extent {
         count: 0,
         bytes: 0,
@@ -166,11 +166,11 @@ fn put_chunk_header(out: &mut [u8], kind: Kind, tail: u32, prev: u32, next: u32)
 {
     match kind {
         Kind::Listing => {
-            let words = [chunk::LISTING_TAG, tail, 0, prev, next];
+            let words = [chunk_fields::LISTING_TAG, tail, 0, prev, next];
             put_words(out, 0, &words);
         }
         Kind::Index => {
-            let words = [chunk::INDEX_TAG, tail];
+            let words = [chunk_fields::INDEX_TAG, tail];
             put_words(out, 0, &words);
         }
     }
@@ -184,11 +184,11 @@ fn put_frame(out: &mut [u8], kind: Kind, used: usize, count: usize, prev: u32, n
     put_chunk_header(
         out,
         kind,
-        (4096 - (chunk::first_place(kind) + used)) as u32,
+        (4096 - (chunk_fields::first_place(kind) + used)) as u32,
         prev,
         next,
     );
-    fields::put16(out, chunk::COUNT_PLACE, count as u16);
+    fields::put16(out, chunk_fields::COUNT_PLACE, count as u16);
 }
 
 // Writes the chunk whose first entry is at a cursor, with as many entries as fit; `prev` and `next` are for a listing chunk. Writes nothing

@@ -1,10 +1,5 @@
 -- What is stored under an entry, by its cases.
-use mathlib.Core.Path.{_≡_}
-use mathlib.Core.List.{List, []}
-use Prim.Native.Nat.{ℕ, _+_, _<_}
-use native.Mathlib.Omega.{arith}
-use lib.ListN.{length}
-use borrow.Author.Tests.{eq-eqb, ne-eqb}
+use Rattle.fields.proofs.Base.{_≡_, List, [], ℕ, _+_, _<_, arith, length, eq-eqb, ne-eqb}
 use Rattle.fields.specs.Part.{partOf}
 use Rattle.fields.proofs.Parts.{part-outside}
 use Rattle.header.specs.declared.Record.{Record}

@@ -1,10 +1,6 @@
 -- The checks of a directory's header in their order: both rules hold where it is good, and what it says is read from its bytes
 -- (`directory-rules`); where both hold, it is good (`directory-good`); a refusal has one of their numbers (`directory-refused`).
-use mathlib.Core.Path.{_≡_, refl}
-use mathlib.Core.List.{List}
-use mathlib.Core.Bool.{Bool, true, false, cond}
-use Prim.Native.Nat.{ℕ, _≤_}
-use native.Mathlib.Omega.{arith}
+use Rattle.fields.proofs.Base.{_≡_, refl, List, Bool, true, false, cond, ℕ, _≤_, arith}
 use Rattle.directory_header.specs.DirectoryHeader.{directoryTagged, directoryRight, directoryFieldsOf, directoryHeaderOf}
 use Rattle.directory_header.specs.declared.DirectoryFields.{DirectoryFields}
 use Rattle.directory_header.specs.declared.CheckedDirectoryHeader.the-variants.{Good, Refused}

@@ -1,9 +1,5 @@
 -- What each rule on the directory's header tells where it holds.
-use mathlib.Core.Path.{_≡_, refl}
-use mathlib.Core.Bool.{Bool, true, false, cond, not, _&&_, _||_}
-use Prim.Native.Nat.{ℕ, _+_, _*_, _≤_, _<_}
-use lib.Dec.{ltb, leb, eqb}
-use borrow.Author.Tests.{leb-true, ltb-true, eqb-true, eqb-false, not-true}
+use Rattle.fields.proofs.Base.{_≡_, refl, Bool, true, false, cond, not, _&&_, _||_, ℕ, _+_, _*_, _≤_, _<_, ltb, leb, eqb, leb-true, ltb-true, eqb-true, eqb-false, not-true}
 use Rattle.fields.proofs.Tests.{and-both}
 use Rattle.refusals.specs.Refusals.{noChunk}
 use Rattle.directory_header.specs.DirectoryHeader.{within, boundsRight, filled, endsRight, rootRight, directoryRight}

@@ -1,8 +1,5 @@
 -- Examples of ENCINTs: numbers of one to nine bytes, with leading bytes 80 and without, and bytes that are refused.
-use mathlib.Core.Path.{_≡_, refl}
-use mathlib.Core.List.{List, [], _∷_, _++_}
-use Prim.Native.Nat.{ℕ, _-_, _^_}
-use lib.ListN.{length, replicate}
+use Rattle.fields.proofs.Base.{_≡_, refl, List, [], _∷_, _++_, ℕ, _-_, _^_, length, replicate}
 use Rattle.encint.specs.Encint.{rest, decoded, encintAt, sevenBitGroups, leading, encoded}
 use Rattle.encint.specs.Padded.{padded}
 use Rattle.encint.specs.declared.Number.the-variants.{Value, Bad}

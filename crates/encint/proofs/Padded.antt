@@ -1,14 +1,6 @@
 -- Bytes that are read as v are leading bytes 80 and the short form of v, and such bytes are read as v.
-use mathlib.Core.Path.{_≡_, ap, ap₂, sym, subst, _∙_}
-use mathlib.Core.List.{List, [], _∷_, _++_, append-assoc}
-use Prim.Native.Nat.{ℕ, zero, suc, _+_, _-_, _*_, _/_, _%_, _^_, _≤_, _<_}
-use native.Mathlib.Nat.{pow-suc, pow-succ', div-one, one-mul, zero-add, suc-add, div-div-eq-div-mul, div-lt-iff-lt-mul, div-eq-of-lt, one-le-pow, pow-le-pow-right, lt-of-lt-of-le}
-use native.Mathlib.Numerals.{sub-one}
-use native.Mathlib.Decide.{decLt}
-use native.Mathlib.Omega.{arith}
-use lib.Dec.{lit<}
-use lib.ListN.{length, getD, take, drop, replicate, length-append, length-replicate}
-use lib.Seq.{getD-drop, take-at}
+use Rattle.fields.proofs.Base.{_≡_, ap, ap₂, sym, subst, _∙_, List, [], _∷_, _++_, append-assoc, ℕ, zero, suc, _+_, _-_, _*_, _/_, _%_, _^_, _≤_, _<_, pow-suc, pow-succ', zero-add, div-eq-of-lt, pow-le-pow-right, lt-of-lt-of-le, sub-one, decLt, arith, lit<, length, getD, take, drop, replicate, length-append, length-replicate, getD-drop, take-at}
+use native.Mathlib.Nat.{div-one, one-mul, suc-add, div-div-eq-div-mul, div-lt-iff-lt-mul, one-le-pow}
 use Rattle.fields.proofs.Parts.{part-rest}
 use Rattle.encint.specs.Encint.{rest, encintAt, sevenBitGroups, leading, encoded}
 use Rattle.encint.specs.Padded.{padded, PaddedAt, ReadExact}

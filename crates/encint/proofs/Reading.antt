@@ -1,14 +1,7 @@
 -- Reading an ENCINT, byte by byte, and the bounds of what is read.
-use mathlib.Core.Path.{_≡_, refl, ap, sym, _∙_}
-use mathlib.Core.List.{List, [], _∷_}
-use Prim.Native.Nat.{ℕ, zero, suc, _+_, _-_, _*_, _%_, _^_, _≤_, _<_}
-use native.Mathlib.Nat.{pow-suc, pow-le-pow-right, le-trans, lt-of-lt-of-le}
-use native.Mathlib.Numerals.{sub-one}
-use native.Mathlib.Decide.{decLt}
-use native.Mathlib.Omega.{arith}
-use lib.Dec.{lit<, lit≤}
-use lib.ListN.{length, getD, drop, length-drop, drop-of-length-le}
-use borrow.Author.Tests.{lt-ltb, le-ltb}
+use Rattle.fields.proofs.Base.{_≡_, refl, ap, sym, _∙_, List, [], _∷_, ℕ, zero, suc, _+_, _-_, _*_, _%_, _^_, _≤_, _<_, pow-suc, pow-le-pow-right, lt-of-lt-of-le, sub-one, decLt, arith, lit<, length, getD, drop, length-drop, drop-of-length-le, lt-ltb, le-ltb}
+use native.Mathlib.Nat.{le-trans}
+use lib.Dec.{lit≤}
 use Rattle.fields.proofs.Parts.{drop-more}
 use Rattle.encint.specs.Encint.{rest, decoded, encintAt}
 use Rattle.encint.specs.declared.Number.the-variants.{Value, Bad}

@@ -1,11 +1,5 @@
 -- What was written is read back, whatever stands before and behind it.
-use mathlib.Core.Path.{_≡_, ap, ap₂, _∙_}
-use mathlib.Core.List.{List, _∷_, _++_}
-use Prim.Native.Nat.{ℕ, zero, suc, _+_, _-_, _*_, _/_, _%_, _^_, _≤_, _<_}
-use native.Mathlib.Nat.{pow-suc, zero-add, add-zero}
-use native.Mathlib.Numerals.{sub-one}
-use native.Mathlib.Omega.{arith}
-use lib.ListN.{length}
+use Rattle.fields.proofs.Base.{_≡_, ap, ap₂, _∙_, List, _∷_, _++_, ℕ, zero, suc, _+_, _-_, _*_, _/_, _%_, _^_, _≤_, _<_, pow-suc, zero-add, add-zero, sub-one, arith, length}
 use Rattle.encint.specs.Encint.{rest, decoded, sevenBitGroups, leading, encoded}
 use Rattle.encint.specs.declared.Number.the-variants.{Value}
 use Rattle.encint.proofs.Reading.{rest-last, rest-more}

@@ -1,15 +1,7 @@
 -- Writing an ENCINT: how many bytes it takes, and the stores that put them into a list.
-use mathlib.Core.Path.{_≡_, refl, ap, sym, _∙_}
-use mathlib.Core.Bool.{cond}
-use mathlib.Core.List.{List, [], _∷_, _++_}
-use Prim.Native.Nat.{ℕ, zero, suc, _+_, _-_, _*_, _/_, _%_, _^_, _≤_, _<_}
-use native.Mathlib.Nat.{pow-suc, suc-inj, zero-add, add-zero, add-suc}
-use native.Mathlib.Numerals.{sub-one}
-use native.Mathlib.Decide.{decLt}
-use native.Mathlib.Omega.{arith}
-use lib.ListN.{length, take, drop, set, take-append-drop}
-use lib.Seq.{take-set-le, sets}
-use borrow.Author.Tests.{lt-ltb, le-ltb, eq-eqb, ne-eqb}
+use Rattle.fields.proofs.Base.{_≡_, refl, ap, sym, _∙_, cond, List, [], _∷_, _++_, ℕ, zero, suc, _+_, _-_, _*_, _/_, _%_, _^_, _≤_, _<_, pow-suc, zero-add, add-zero, sub-one, decLt, arith, length, take, drop, set, take-append-drop, sets, lt-ltb, le-ltb, eq-eqb, ne-eqb}
+use native.Mathlib.Nat.{suc-inj, add-suc}
+use lib.Seq.{take-set-le}
 use Rattle.fields.specs.Part.{inside}
 use Rattle.fields.specs.Put.{put}
 use Rattle.fields.proofs.Tests.{cond-same}

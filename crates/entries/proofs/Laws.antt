@@ -1,13 +1,6 @@
 -- What an entry that was read is known to be: an entry of each kind taken apart, where each of its numbers stands and what rules they keep
 -- (`listing-apart`, `index-apart`); that it and its name lie inside the chunk (`item-inside`).
-use mathlib.Core.Path.{_≡_, refl, sym, ap₂, subst, _∙_}
-use mathlib.Core.List.{List}
-use mathlib.Core.Bool.{Bool, true, false, cond, _&&_, _||_}
-use Prim.Native.Nat.{ℕ, _+_, _≤_, _<_}
-use native.Mathlib.Omega.{arith}
-use borrow.Author.Tests.{ltb-true, leb-true, lt-ltb, le-ltb}
-use lib.ListN.{length}
-use lib.Dec.{ltb, leb}
+use Rattle.fields.proofs.Base.{_≡_, refl, sym, ap₂, subst, _∙_, List, Bool, true, false, cond, _&&_, _||_, ℕ, _+_, _≤_, _<_, arith, ltb-true, leb-true, lt-ltb, le-ltb, length, ltb, leb}
 use Rattle.fields.specs.Part.{inside, part}
 use Rattle.fields.proofs.Tests.{and-both}
 use Rattle.encint.specs.Encint.{encintAt}

@@ -1,13 +1,6 @@
 -- A listing entry that was read stands there, each of its numbers in its short form behind bytes 80 or none; it is unpadded exactly where its own
 -- bytes are those that are written for it.
-use mathlib.Core.Path.{_≡_, sym, ap, ap₂, _∙_}
-use mathlib.Core.Logic.{_↔_}
-use mathlib.Core.Bool.{true}
-use mathlib.Core.List.{List, _++_}
-use Prim.Native.Nat.{ℕ, _+_, _-_, _≤_, _<_}
-use native.Mathlib.Omega.{arith}
-use lib.ListN.{length, getD, drop, length-append}
-use borrow.Author.Tests.{eq-eqb, eqb-true}
+use Rattle.fields.proofs.Base.{_≡_, sym, ap, ap₂, _∙_, _↔_, true, List, _++_, ℕ, _+_, _-_, _≤_, _<_, arith, length, getD, drop, length-append, eq-eqb, eqb-true}
 use Rattle.fields.specs.Part.{part}
 use Rattle.fields.proofs.Parts.{length-part, part-add, part-rest}
 use Rattle.encint.specs.Encint.{encintAt, encoded}

@@ -1,10 +1,5 @@
 -- Things whose names rise: the first and the others; any of them; some of them, without those in front or behind.
-use mathlib.Core.Path.{_≡_, refl}
-use mathlib.Core.List.{List, [], _∷_, _++_}
-use mathlib.Core.Bool.{true}
-use Prim.Native.Nat.{ℕ, zero, suc, _<_}
-use native.Mathlib.Omega.{arith}
-use lib.ListN.{length, getD, take, drop}
+use Rattle.fields.proofs.Base.{_≡_, refl, List, [], _∷_, _++_, true, ℕ, zero, suc, _<_, arith, length, getD, take, drop}
 use Rattle.fields.proofs.Tests.{and-both}
 use Rattle.names.specs.Names.{below}
 use Rattle.names.proofs.Laws.{below-trans}

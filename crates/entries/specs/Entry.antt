@@ -57,3 +57,24 @@ itemAt limits Index s at = indexAt (limits .count) s at
 -- the bytes of an entry's name
 abbrev pub nameOf : List ℕ → Place → List ℕ
 nameOf s e = part s (e .start) (e .len)
+
+-- ---- what an entry means
+
+-- an entry: its place in the chunk, its name's place and bytes, its numbers (those that its kind lacks are 0), the place behind it
+pub record Entry : Type 0 where
+  pub at : ℕ
+  pub start : ℕ
+  pub name : List ℕ
+  pub section : ℕ
+  pub offset : ℕ
+  pub size : ℕ
+  pub child : ℕ
+  pub next : ℕ
+
+abbrev pub entryName : Entry → List ℕ
+entryName e = e .name
+
+-- the entry at a place, with its name's bytes
+abbrev pub entryOf : List ℕ → Place → Entry
+entryOf s e =
+    record { at = e .at; start = e .start; name = nameOf s e; section = e .section; offset = e .offset; size = e .size; child = e .child; next = e .next }

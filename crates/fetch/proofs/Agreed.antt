@@ -1,7 +1,5 @@
 -- On a book that opening accepts, the descent that checks no chunk replies what lookup answers: `fetched-same`.
-use mathlib.Core.Path.{_≡_, sym, ap, _∙_}
-use mathlib.Core.List.{List}
-use Prim.Native.Nat.{ℕ, _≤_}
+use Rattle.fields.proofs.Base.{_≡_, sym, ap, _∙_, List, ℕ, _≤_}
 use Rattle.header.specs.declared.Record.{Record}
 use Rattle.tree.specs.Tree.{top}
 use Rattle.tree.specs.Descent.{outcomeFrom, outcome}

@@ -1,11 +1,6 @@
 -- On any bytes: what the descent without checks finds stands where it is reported to (`fetched-stands`), and it refuses a name or a record that cannot be
 -- asked, and nothing else (`fetch-refusal`).
-use mathlib.Core.Path.{_≡_, refl, sym}
-use mathlib.Core.Logic.{_⊎_, inl, inr}
-use mathlib.Core.Bool.{Bool, true, false, cond}
-use mathlib.Core.List.{List}
-use Prim.Native.Nat.{ℕ, zero, suc}
-use native.Mathlib.Omega.{arith}
+use Rattle.fields.proofs.Base.{_≡_, refl, sym, _⊎_, inl, inr, Bool, true, false, cond, List, ℕ, zero, suc, arith}
 use Rattle.refusals.specs.Refusals.{refusalOf}
 use Rattle.refusals.specs.declared.Refusal.{Refusal}
 use Rattle.names.specs.Names.{askable, compared}

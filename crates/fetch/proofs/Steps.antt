@@ -1,8 +1,5 @@
 -- What one turn of the descent makes of it.
-use mathlib.Core.Path.{_≡_, refl, ap, _∙_}
-use mathlib.Core.List.{List}
-use Prim.Native.Nat.{ℕ, suc, _-_, _<_}
-use native.Mathlib.Omega.{arith}
+use Rattle.fields.proofs.Base.{_≡_, refl, ap, _∙_, List, ℕ, suc, _-_, _<_, arith}
 use Rattle.names.specs.Names.{compared}
 use Rattle.seek.specs.Seek.{chooseIn}
 use Rattle.seek.specs.declared.Child.the-variants.{Below, Nowhere}

@@ -1,12 +1,7 @@
 -- Laws of `le` and `bytes`, over every width: bounds, reading in another list, and reading back what was written.
-use mathlib.Core.Path.{_≡_, refl, ap, ap₂, sym, _∙_}
-use mathlib.Core.List.{List, [], _∷_, _++_}
-use Prim.Native.Nat.{ℕ, zero, suc, _+_, _-_, _*_, _/_, _%_, _^_, _≤_, _<_}
-use native.Mathlib.Nat.{mul-assoc, pow-suc, pow-succ', pow-le-pow-right, lt-of-lt-of-le, add-zero}
-use native.Mathlib.Omega.{arith}
-use lib.Dec.{lit<}
-use lib.ListN.{length, getD, take, drop, length-append}
-use lib.Seq.{sets, getD-append-seam, append-snoc, length-take-le}
+use Rattle.fields.proofs.Base.{_≡_, refl, ap, ap₂, sym, _∙_, List, [], _∷_, _++_, ℕ, zero, suc, _+_, _-_, _*_, _/_, _%_, _^_, _≤_, _<_, pow-suc, pow-succ', pow-le-pow-right, lt-of-lt-of-le, add-zero, arith, lit<, length, getD, take, drop, length-append, sets, length-take-le}
+use native.Mathlib.Nat.{mul-assoc}
+use lib.Seq.{getD-append-seam, append-snoc}
 use Rattle.fields.specs.Le.{le, bytes}
 use Rattle.fields.specs.Part.{part}
 use Rattle.fields.proofs.Parts.{past, drop-more}

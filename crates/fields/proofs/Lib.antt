@@ -1,3 +1,4 @@
+pub mod Base
 pub mod Le
 pub mod Lists
 pub mod Parts

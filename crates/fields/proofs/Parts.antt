@@ -1,15 +1,8 @@
 -- Laws of a part of a list.
-use mathlib.Core.Path.{_≡_, refl, sym, ap, _∙_}
-use mathlib.Core.List.{List, [], _∷_, _++_}
-use Prim.Native.Nat.{ℕ, zero, suc, _+_, _≤_, _<_}
-use native.Mathlib.Nat.{zero-add, suc-add}
-use native.Mathlib.Numerals.{add-one}
-use native.Mathlib.Decide.{decLt}
-use native.Mathlib.Omega.{arith}
-use lib.Dec.{lit<}
-use lib.ListN.{length, getD, take, drop, length-take, length-drop, take-append-drop, List·getD-eq-default}
-use lib.Seq.{drop-cons, drop-drop, getD-take, getD-drop, length-take-le, take-nil, take-add, take-take}
-use borrow.Author.Tests.{le-leb, lt-leb}
+use Rattle.fields.proofs.Base.{_≡_, refl, sym, ap, _∙_, List, [], _∷_, _++_, ℕ, zero, suc, _+_, _≤_, _<_, zero-add, add-one, decLt, arith, lit<, length, getD, take, drop, length-drop, take-append-drop, drop-drop, getD-drop, length-take-le, take-take, le-leb, lt-leb}
+use native.Mathlib.Nat.{suc-add}
+use lib.ListN.{length-take, List·getD-eq-default}
+use lib.Seq.{drop-cons, getD-take, take-nil, take-add}
 use Rattle.fields.specs.Part.{part, partOf}
 
 -- a place past the end holds 0

@@ -1,13 +1,5 @@
 -- Writing into a list: laws of `sets`, the bytes written one by one, and of `put`.
-use mathlib.Core.Path.{_≡_, ap, sym, _∙_}
-use mathlib.Core.Bool.{true, false}
-use mathlib.Core.List.{List, [], _∷_, _++_, append-assoc}
-use Prim.Native.Nat.{ℕ, suc, _+_, _≤_, _<_}
-use native.Mathlib.Decide.{decLe}
-use native.Mathlib.Omega.{arith}
-use lib.ListN.{length, take, drop, set}
-use lib.Seq.{sets, sets-eq, length-sets}
-use borrow.Author.Tests.{le-leb, lt-leb}
+use Rattle.fields.proofs.Base.{_≡_, ap, sym, _∙_, true, false, List, [], _∷_, _++_, append-assoc, ℕ, suc, _+_, _≤_, _<_, decLe, arith, length, take, drop, set, sets, sets-eq, length-sets, le-leb, lt-leb}
 use Rattle.fields.specs.Part.{inside}
 use Rattle.fields.specs.Put.{put}
 use Rattle.fields.proofs.Tests.{cond-same}

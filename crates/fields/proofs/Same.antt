@@ -1,11 +1,5 @@
 -- Laws of `same` and `standsAt`: the tests mean equality.
-use mathlib.Core.Path.{_≡_, refl, ap, ap₂, _∙_}
-use mathlib.Core.Bool.{true, false}
-use mathlib.Core.List.{List, [], _∷_}
-use Prim.Native.Nat.{ℕ, suc, _+_, _≤_, _<_}
-use lib.Dec.{eqb}
-use lib.ListN.{length, getD, drop, drop-of-length-le}
-use borrow.Author.Tests.{eqb-true, eq-eqb, ne-eqb, le-leb, lt-leb, leb-true}
+use Rattle.fields.proofs.Base.{_≡_, refl, ap, ap₂, _∙_, true, false, List, [], _∷_, ℕ, suc, _+_, _≤_, _<_, eqb, length, getD, drop, drop-of-length-le, eqb-true, eq-eqb, ne-eqb, le-leb, lt-leb, leb-true}
 use Rattle.fields.specs.Part.{part}
 use Rattle.fields.specs.Same.{same, standsAt}
 use Rattle.fields.proofs.Parts.{drop-more}

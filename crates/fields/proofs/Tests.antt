@@ -1,11 +1,6 @@
 -- Laws of tests: when two are one, and what a test that holds tells of its parts.
-use mathlib.Core.Path.{_≡_, refl, sym, _∙_}
-use mathlib.Core.Bool.{Bool, true, false, not, cond, _&&_, false≢true}
-use Prim.Native.Nat.{ℕ, _≤_}
-use native.Mathlib.Omega.{arith}
-use native.Mathlib.Decide.{decLe, ℕ-discrete}
-use lib.Dec.{leb, eqb}
-use borrow.Author.Tests.{eq-eqb, ne-eqb, le-leb, lt-leb, not-true, not-false}
+use Rattle.fields.proofs.Base.{_≡_, refl, sym, _∙_, Bool, true, false, not, cond, _&&_, false≢true, ℕ, _≤_, arith, decLe, ℕ-discrete, leb, eqb, eq-eqb, ne-eqb, le-leb, lt-leb, not-true}
+use borrow.Author.Tests.{not-false}
 
 -- a test that fails does not hold
 pub never {ℓ} : {A : Type ℓ} → false ≡ true → A

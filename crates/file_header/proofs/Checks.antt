@@ -1,10 +1,6 @@
 -- The checks of a file header in their order: all hold where it is good, and what it says is read from its bytes (`file-rules`); where all
 -- hold, it is good (`file-good`); a refusal has one of their numbers (`file-refused`). So too of section 0.
-use mathlib.Core.Path.{_≡_, refl}
-use mathlib.Core.List.{List}
-use mathlib.Core.Bool.{Bool, true, false, cond}
-use Prim.Native.Nat.{ℕ, _≤_}
-use native.Mathlib.Omega.{arith}
+use Rattle.fields.proofs.Base.{_≡_, refl, List, Bool, true, false, cond, ℕ, _≤_, arith}
 use Rattle.file_header.specs.FileHeader.{longEnough, fileTagged, versionRight, sectionsRight, lengthRight, fileFieldsOf, requiring, fileHeaderOf, sectionZeroOf}
 use Rattle.file_header.specs.declared.FileFields.{FileFields}
 use Rattle.file_header.specs.declared.CheckedFileHeader.{CheckedFileHeader}

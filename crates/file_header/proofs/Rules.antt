@@ -1,11 +1,5 @@
 -- What refusal 4 tells of a file header where it holds.
-use mathlib.Core.Path.{_≡_}
-use mathlib.Core.List.{List}
-use mathlib.Core.Bool.{Bool, true, _&&_}
-use Prim.Native.Nat.{ℕ, _+_, _≤_}
-use native.Mathlib.Omega.{arith}
-use lib.Dec.{leb, eqb}
-use borrow.Author.Tests.{leb-true, eqb-true}
+use Rattle.fields.proofs.Base.{_≡_, List, Bool, true, _&&_, ℕ, _+_, _≤_, arith, leb, eqb, leb-true, eqb-true}
 use Rattle.fields.proofs.Tests.{and-both}
 use Rattle.file_header.specs.FileHeader.{headerEnd, sectionStart, sectionLength, directoryStart, directoryLength, contentStart, placed, apart, lengthsRight, placesRight, contentRight, sectionsRight}
 

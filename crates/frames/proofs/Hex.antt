@@ -1,10 +1,5 @@
 -- Digits as they are written: those of the bytes that are left make the whole.
-use mathlib.Core.Path.{_≡_, refl}
-use mathlib.Core.List.{List, _∷_, flatMap}
-use Prim.Native.Nat.{ℕ, suc, _+_, _*_, _/_, _%_, _≤_, _<_}
-use native.Mathlib.Omega.{arith}
-use lib.ListN.{length, getD, drop, set, length-set, drop-of-length-le}
-use lib.Seq.{sets}
+use Rattle.fields.proofs.Base.{_≡_, refl, List, _∷_, flatMap, ℕ, suc, _+_, _*_, _/_, _%_, _≤_, _<_, arith, length, getD, drop, set, length-set, drop-of-length-le, sets}
 use Rattle.fields.proofs.Parts.{drop-more}
 use Rattle.frames.specs.Hex.{hexDigit, hexOf}
 

@@ -1,16 +1,9 @@
 -- The group of an empty chunk, and of one whose density is capped; and that a chunk with a count has its bytes.
-use mathlib.Core.Path.{_≡_, sym, ap, _∙_}
-use mathlib.Core.List.{List}
-use Prim.Native.Nat.{ℕ, _*_, _/_, _≤_, _<_, min}
-use native.Mathlib.Omega.{arith}
-use native.Mathlib.Decide.{decLt, decLe}
-use native.Mathlib.Nat.{div-eq-of-lt, pow-le-pow-right}
-use lib.Dec.{lit<}
-use lib.ListN.{length}
+use Rattle.fields.proofs.Base.{_≡_, sym, ap, _∙_, List, ℕ, _*_, _/_, _≤_, _<_, min, arith, decLt, decLe, div-eq-of-lt, pow-le-pow-right, lit<, length}
 use Rattle.fields.proofs.Le.{le-past}
 use Rattle.entries.specs.declared.Limits.{Limits}
 use Rattle.entries.specs.declared.Kind.{Kind}
-use Rattle.chunk.specs.Chunk.{entryCount, spacingOf, countPlace}
+use Rattle.chunk_fields.specs.ChunkFields.{entryCount, spacingOf, countPlace}
 use Rattle.halving.specs.Halving.{Stand, groupAbove, lastGroup, groupIn}
 use Rattle.halving.specs.Halvings.{halvingsIn}
 use Rattle.halving.proofs.Halving.{halved-one, halvings-one}

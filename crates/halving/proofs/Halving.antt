@@ -2,14 +2,7 @@
 --     halved-right   the group that is left is the first or not above, and the last or has one behind it that is above
 --     halved-enough, halvings-enough  the bound on the turns is no bound on what is found
 --     halvings-few   with 2 ^ h at least the number of groups, h comparisons are enough
-use mathlib.Core.Path.{_≡_, refl, sym, ap, ap₂, _∙_}
-use mathlib.Core.Logic.{_⊎_, inr}
-use mathlib.Core.Bool.{Bool, true, false, cond}
-use Prim.Native.Nat.{ℕ, zero, suc, _+_, _-_, _*_, _^_, _≤_, _<_}
-use native.Mathlib.Omega.{arith}
-use native.Mathlib.Decide.{decLt}
-use native.Mathlib.Nat.{pow-suc}
-use borrow.Author.Tests.{lt-ltb, le-ltb}
+use Rattle.fields.proofs.Base.{_≡_, refl, sym, ap, ap₂, _∙_, _⊎_, inr, Bool, true, false, cond, ℕ, zero, suc, _+_, _-_, _*_, _^_, _≤_, _<_, arith, decLt, pow-suc, lt-ltb, le-ltb}
 use Rattle.quickref.proofs.Steps.{some-left}
 use Rattle.halving.specs.Halving.{middle, halved}
 use Rattle.halving.specs.Halvings.{halvings}

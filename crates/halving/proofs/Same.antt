@@ -2,20 +2,15 @@
 --     same-group     it leaves the same group, and
 --     same-halvings  takes as many comparisons
 --     group-right    that group is the first or does not begin above the name, and is the last or has one behind it that does
-use mathlib.Core.Path.{_≡_, refl, sym, ap, subst, _∙_}
-use mathlib.Core.Logic.{inl}
-use mathlib.Core.List.{List}
-use Prim.Native.Nat.{ℕ, suc, _+_, _-_, _*_, _≤_, _<_}
-use native.Mathlib.Omega.{arith}
-use native.Mathlib.Nat.{le-div-iff-mul-le, div-add-mod', mod-lt}
-use lib.ListN.{length, getD, drop}
-use lib.Seq.{getD-drop}
+use Rattle.fields.proofs.Base.{_≡_, refl, sym, ap, subst, _∙_, inl, List, ℕ, suc, _+_, _-_, _*_, _≤_, _<_, arith, le-div-iff-mul-le, div-add-mod', length, getD, drop, getD-drop}
+use native.Mathlib.Nat.{mod-lt}
 use Rattle.names.specs.Order.{isLess}
-use Rattle.entries.specs.Entry.{nameOf}
+use Rattle.entries.specs.Entry.{nameOf, Entry}
 use Rattle.entries.specs.declared.Limits.{Limits}
 use Rattle.entries.proofs.Laws.{item-inside}
 use Rattle.entries.specs.declared.Kind.{Kind}
-use Rattle.chunk.specs.Chunk.{Entry, all, entriesAt, entryCount, tailLength, spacingOf, quickCount}
+use Rattle.chunk.specs.Chunk.{all, entriesAt}
+use Rattle.chunk_fields.specs.ChunkFields.{entryCount, tailLength, spacingOf, quickCount}
 use Rattle.chunk.proofs.Accepted.{Accepted, entries-more}
 use Rattle.quickref.specs.Quickref.{nth, nameIn, groupAt}
 use Rattle.quickref.proofs.Groups.{other, nth-name, group-entries, entries-counted}

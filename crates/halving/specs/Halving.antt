@@ -9,7 +9,7 @@ use Rattle.names.specs.declared.Order.{Order}
 use Rattle.entries.specs.Entry.{withNumber, nameAt}
 use Rattle.entries.specs.declared.Limits.{Limits}
 use Rattle.entries.specs.declared.Kind.{Kind}
-use Rattle.chunk.specs.Chunk.{entryCount, spacingOf, quickCount}
+use Rattle.chunk_fields.specs.ChunkFields.{entryCount, spacingOf, quickCount}
 use Rattle.quickref.specs.Quickref.{groupAt}
 
 -- ---- how the asked name stands to another; a search goes by this alone, so that another comparison can be put in

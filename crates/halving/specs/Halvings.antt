@@ -8,7 +8,8 @@ use lib.ListN.{length}
 use Rattle.names.specs.Order.{isLess}
 use Rattle.entries.specs.declared.Limits.{Limits}
 use Rattle.entries.specs.declared.Kind.{Kind}
-use Rattle.chunk.specs.Chunk.{Entry, quickCount}
+use Rattle.entries.specs.Entry.{Entry}
+use Rattle.chunk_fields.specs.ChunkFields.{quickCount}
 use Rattle.quickref.specs.Quickref.{nth, nameIn}
 use Rattle.halving.specs.Halving.{Stand, middle, halved, groupAbove, lastGroup}
 

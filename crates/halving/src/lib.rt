@@ -4,7 +4,7 @@ ghost use Prim.Native.Nat.{_≤_, _<_, min};
 ghost use lib.ListN.{length};
 ghost use Rattle.names.specs.Order.{isLess};
 ghost use Rattle.names.specs.Names.{compared};
-ghost use Rattle.chunk.specs.Chunk.{countPlace};
+ghost use Rattle.chunk_fields.specs.ChunkFields.{countPlace};
 ghost use Rattle.quickref.specs.Quickref.{groupAt};
 ghost use Rattle.halving.specs.Halving.{groupAbove, halved, groupIn, sizeIn};
 ghost use Rattle.halving.specs.Halvings.{halvings, halvingsIn};
@@ -31,11 +31,11 @@ fn group_place(c: &[u8], kind: Kind, g: usize) -> usize
     requires { ⌜ countPlace < length (now c) ⌝ }
     ensures { λ r. ⌜ r ≡ groupAt kind (now (c .entry)) g ⌝ }
 {
-    let first = chunk::first_place(kind);
+    let first = chunk_fields::first_place(kind);
     if g == 0 {
         return first;
     }
-    let at = chunk::quick_place(g);
+    let at = chunk_fields::quick_place(g);
     let low = c[at] as usize;
     let high = c[at + 1] as usize;
     first + low + 0x100 * high
@@ -91,15 +91,15 @@ fn smaller(a: usize, b: usize) -> usize
 pub fn group_for(c: &[u8], limits: Limits, kind: Kind, name: &[u8]) -> Group
     ensures { λ r. ⌜ (r .at ≡ groupAt kind (now (c .entry)) (groupIn limits kind (now (c .entry)) (compared (now (name .entry))))) × (r .size ≡ sizeIn limits (now (c .entry)) (groupIn limits kind (now (c .entry)) (compared (now (name .entry))))) × (r .count ≡ halvingsIn limits kind (now (c .entry)) (compared (now (name .entry)))) ⌝ }
 {
-    let total = chunk::entry_count(c) as usize;
+    let total = chunk_fields::entry_count(c) as usize;
     if total == 0 {
         return Group {
-            at: chunk::first_place(kind),
+            at: chunk_fields::first_place(kind),
             size: 0,
             count: 0,
         };
     }
-    let n = chunk::spacing(limits.density);
+    let n = chunk_fields::spacing(limits.density);
     let left = group_of(c, kind, name, (total - 1) / n);
     Group {
         at: group_place(c, kind, left.group),

@@ -1,10 +1,5 @@
 -- What good headers tell of their record: `header-accepted`.
-use mathlib.Core.Path.{_≡_, sym, ap, ap₂, subst, _∙_}
-use mathlib.Core.List.{List}
-use mathlib.Core.Bool.{true}
-use Prim.Native.Nat.{ℕ, _+_, _*_, _≤_, _<_}
-use native.Mathlib.Omega.{arith}
-use lib.ListN.{length}
+use Rattle.fields.proofs.Base.{_≡_, sym, ap, ap₂, subst, _∙_, List, true, ℕ, _+_, _*_, _≤_, _<_, arith, length}
 use Rattle.file_header.specs.FileHeader.{directoryLength, fileFieldsOf}
 use Rattle.file_header.specs.declared.FileFields.{FileFields}
 use Rattle.file_header.proofs.Rules.{sections-told}

@@ -1,10 +1,6 @@
 -- The headers of a file put together: where each is good, the whole is (`header-good`), and the other way round (`header-both`); a refusal has
 -- a number of the table (`header-refused`).
-use mathlib.Core.Path.{_≡_, refl}
-use mathlib.Core.List.{List}
-use Prim.Native.Nat.{ℕ, _≤_}
-use native.Mathlib.Omega.{arith}
-use lib.ListN.{length}
+use Rattle.fields.proofs.Base.{_≡_, refl, List, ℕ, _≤_, arith, length}
 use Rattle.file_header.specs.FileHeader.{fileHeaderOf, sectionZeroOf}
 use Rattle.file_header.specs.declared.FileFields.{FileFields}
 use Rattle.file_header.specs.declared.CheckedFileHeader.{CheckedFileHeader}

@@ -1,16 +1,9 @@
 -- Entries that a new book can have, and a cut of them into listing chunks that fit: `Cut`. The entries of an input that the writer takes, cut as
 -- the writer cuts them, are such (`takes-told`).
-use mathlib.Core.Path.{_≡_, sym, ap, subst, _∙_}
-use mathlib.Core.Bool.{true, _&&_}
-use mathlib.Core.List.{List, [], _∷_, flatten}
-use Prim.Native.Nat.{ℕ, _^_, _≤_, _<_}
-use native.Mathlib.Omega.{arith}
-use lib.ListN.{length, length-map}
-use lib.Dec.{ltb, leb, eqb}
-use borrow.Author.Tests.{leb-true, ltb-true}
+use Rattle.fields.proofs.Base.{_≡_, sym, ap, subst, _∙_, true, _&&_, List, [], _∷_, flatten, ℕ, _^_, _≤_, _<_, arith, length, length-map, ltb, leb, eqb, leb-true, ltb-true}
 use Rattle.fields.proofs.Tests.{and-both}
 use Rattle.entries.specs.declared.Kind.the-variants.{Listing}
-use Rattle.chunk.specs.Chunk.{spacingOf}
+use Rattle.chunk_fields.specs.ChunkFields.{spacingOf}
 use Rattle.entries.specs.Rising.{rising}
 use Rattle.entries.specs.Stored.{Stored, storedOf, storedName}
 use Rattle.source.specs.Source.{endOf}

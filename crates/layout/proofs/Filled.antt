@@ -1,12 +1,8 @@
 -- Chunks whose entries fit are as long as a chunk, and have room for what stands in them.
-use mathlib.Core.Path.{_≡_, ap, _∙_}
-use mathlib.Core.List.{List, [], _∷_, flatten}
-use Prim.Native.Nat.{ℕ, _+_, _*_, _≤_, _<_}
-use native.Mathlib.Omega.{arith}
-use lib.ListN.{length}
+use Rattle.fields.proofs.Base.{_≡_, ap, _∙_, List, [], _∷_, flatten, ℕ, _+_, _*_, _≤_, _<_, arith, length}
 use Rattle.entries.specs.declared.Kind.{Kind}
 use Rattle.entries.specs.declared.Kind.the-variants.{Listing, Index}
-use Rattle.chunk.specs.Chunk.{quickCount, spacingOf}
+use Rattle.chunk_fields.specs.ChunkFields.{quickCount, spacingOf}
 use Rattle.entries.specs.Stored.{Stored}
 use Rattle.fields.proofs.Lists.{All, none, more, all-append}
 use Rattle.pack.specs.Groups.{fits}

@@ -1,12 +1,6 @@
 -- One listing chunk is the whole directory; more have an index over them.
-use mathlib.Core.Path.{_≡_, refl, ap}
-use mathlib.Core.Bool.{Bool, true, false}
-use mathlib.Core.List.{List, flatten}
-use Prim.Native.Nat.{ℕ, suc, _+_, _<_}
-use native.Mathlib.Omega.{arith}
-use lib.ListN.{length, length-append}
-use lib.Dec.{leb}
-use borrow.Author.Tests.{leb-true, leb-false}
+use Rattle.fields.proofs.Base.{_≡_, refl, ap, Bool, true, false, List, flatten, ℕ, suc, _+_, _<_, arith, length, length-append, leb, leb-true}
+use borrow.Author.Tests.{leb-false}
 use Rattle.entries.specs.declared.Kind.the-variants.{Index}
 use Rattle.entries.specs.Stored.{Stored}
 use Rattle.pack.specs.Groups.{fits}

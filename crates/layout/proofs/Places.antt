@@ -1,12 +1,7 @@
 -- Where the parts of a new book stand: its headers, its chunks, and the content behind them.
-use mathlib.Core.Path.{_≡_, refl, ap, _∙_}
-use mathlib.Core.List.{List, [], _++_, flatten, append-assoc}
-use Prim.Native.Nat.{ℕ, _+_, _-_, _*_, _<_}
-use native.Mathlib.Omega.{arith}
-use lib.ListN.{length, getD, length-append}
-use lib.Seq.{take-at, drop-at, drop-append-add}
+use Rattle.fields.proofs.Base.{_≡_, refl, ap, _∙_, List, [], _++_, flatten, append-assoc, ℕ, _+_, _-_, _*_, _<_, arith, length, getD, length-append, take-at, drop-at, drop-append-add}
 use Rattle.fields.specs.Part.{part}
-use Rattle.chunk.specs.Chunk.{spacingOf}
+use Rattle.chunk_fields.specs.ChunkFields.{spacingOf}
 use Rattle.fields.proofs.Lists.{All}
 use Rattle.layout.specs.Headers.{headLength, fileHeader, sectionZero, directoryHeader}
 use Rattle.layout.specs.Layout.{Layout, chunkCount, layoutDepth, newRoot, chunkList, headBytes}

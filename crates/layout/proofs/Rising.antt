@@ -1,10 +1,5 @@
 -- Names that rise, cut into groups: they rise in each group, and so do the groups' first names.
-use mathlib.Core.Path.{_≡_, refl}
-use mathlib.Core.Bool.{true}
-use mathlib.Core.List.{List, [], _∷_, _++_, flatten}
-use Prim.Native.Nat.{ℕ, _+_, _<_}
-use native.Mathlib.Omega.{arith}
-use lib.ListN.{length}
+use Rattle.fields.proofs.Base.{_≡_, refl, true, List, [], _∷_, _++_, flatten, ℕ, _+_, _<_, arith, length}
 use Rattle.names.specs.Names.{below}
 use Rattle.names.proofs.Laws.{below-none}
 use Rattle.entries.specs.Rising.{rising}

@@ -1,9 +1,5 @@
 -- The lengths of the parts of a new head: its three headers, and its chunks.
-use mathlib.Core.Path.{_≡_, refl, ap}
-use mathlib.Core.List.{List, [], _∷_, flatten}
-use Prim.Native.Nat.{ℕ, suc, _+_, _*_}
-use native.Mathlib.Omega.{arith}
-use lib.ListN.{length, length-append}
+use Rattle.fields.proofs.Base.{_≡_, refl, ap, List, [], _∷_, flatten, ℕ, suc, _+_, _*_, arith, length, length-append}
 use Rattle.fields.specs.Le.{bytes}
 use Rattle.entries.specs.declared.Kind.{Kind}
 use Rattle.entries.specs.Stored.{Stored}

@@ -1,9 +1,5 @@
 -- When a layout is small enough, and when it is not: the laws of `smallEnough` (FORMAT R19).
-use mathlib.Core.Path.{_≡_}
-use mathlib.Core.Bool.{true, false}
-use Prim.Native.Nat.{_≤_, _<_}
-use lib.Dec.{leb}
-use borrow.Author.Tests.{leb-true, le-leb, lt-leb}
+use Rattle.fields.proofs.Base.{_≡_, true, false, _≤_, _<_, leb, leb-true, le-leb, lt-leb}
 use Rattle.fields.proofs.Tests.{and-both, and-no}
 use Rattle.layout.specs.Layout.{Layout, chunkCount, layoutDepth, smallEnough}
 

@@ -1,11 +1,5 @@
 -- The index chunks of a new directory: their names rise, and their entries are such as an index chunk takes.
-use mathlib.Core.Path.{_≡_, refl, sym, subst}
-use mathlib.Core.Bool.{Bool, true, false, cond}
-use mathlib.Core.List.{List, [], _∷_, flatten}
-use Prim.Native.Nat.{ℕ, zero, suc, _+_, _≤_, _<_}
-use native.Mathlib.Omega.{arith}
-use lib.ListN.{length, length-append}
-use lib.Dec.{leb}
+use Rattle.fields.proofs.Base.{_≡_, refl, sym, subst, Bool, true, false, cond, List, [], _∷_, flatten, ℕ, zero, suc, _+_, _≤_, _<_, arith, length, length-append, leb}
 use Rattle.entries.specs.declared.Kind.{Kind}
 use Rattle.entries.specs.declared.Kind.the-variants.{Index}
 use Rattle.entries.specs.Rising.{rising}

@@ -1,11 +1,7 @@
 -- Chunks that stand one behind another: chunk c starts 4,096 bytes times c behind the first, and is the one that the layout has there.
-use mathlib.Core.Path.{_≡_, sym, ap, _∙_}
-use mathlib.Core.List.{List, [], _∷_, _++_, flatten, append-assoc}
-use Prim.Native.Nat.{ℕ, zero, suc, _+_, _*_, _<_}
-use native.Mathlib.Nat.{zero-add}
-use native.Mathlib.Omega.{arith}
-use lib.ListN.{length, getD, List·getD-append}
-use lib.Seq.{take-at, drop-append-add, getD-append-add}
+use Rattle.fields.proofs.Base.{_≡_, sym, ap, _∙_, List, [], _∷_, _++_, flatten, append-assoc, ℕ, zero, suc, _+_, _*_, _<_, zero-add, arith, length, getD, take-at, drop-append-add}
+use lib.ListN.{List·getD-append}
+use lib.Seq.{getD-append-add}
 use Rattle.fields.specs.Part.{part}
 use Rattle.entries.specs.declared.Kind.{Kind}
 use Rattle.entries.specs.declared.Kind.the-variants.{Listing, Index}

@@ -7,7 +7,7 @@ use lib.Dec.{ltb, leb, eqb}
 use Rattle.entries.specs.declared.Kind.{Kind}
 use Rattle.entries.specs.declared.Kind.the-variants.{Listing, Index}
 use Rattle.refusals.specs.Refusals.{noChunk}
-use Rattle.chunk.specs.Chunk.{spacingOf}
+use Rattle.chunk_fields.specs.ChunkFields.{spacingOf}
 use Rattle.entries.specs.Stored.{Stored}
 use Rattle.source.specs.Input.{given, inputRight}
 use Rattle.pack.specs.Levels.{level, levelsAbove}

@@ -1,9 +1,5 @@
 -- Listing is exact: the steps through a book that opens report every entry of every chunk of its chain, in order, each once, and then the end.
-use mathlib.Core.Path.{_≡_, refl, ap}
-use mathlib.Core.Bool.{true}
-use mathlib.Core.List.{List, flatMap, append-nil}
-use Prim.Native.Nat.{ℕ, zero, suc}
-use borrow.Author.Tests.{eqb-true}
+use Rattle.fields.proofs.Base.{_≡_, refl, ap, true, List, flatMap, append-nil, ℕ, zero, suc, eqb-true}
 use Rattle.fields.proofs.Tests.{never}
 use Rattle.refusals.specs.Refusals.{noChunk}
 use Rattle.header.specs.declared.Record.{Record}

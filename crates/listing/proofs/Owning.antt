@@ -1,17 +1,12 @@
 -- The own bytes of the entry at a cursor, by the cases of the answer.
-use mathlib.Core.Path.{_≡_, refl, sym, ap, subst, _∙_}
-use mathlib.Core.Bool.{Bool, true, false}
-use mathlib.Core.List.{List}
+use Rattle.fields.proofs.Base.{_≡_, refl, sym, ap, subst, _∙_, Bool, true, false, List, ℕ, _<_, getD, eqb, eqb-true, eqb-false}
 use Rattle.fields.proofs.Tests.{and-no}
-use Prim.Native.Nat.{ℕ, _<_}
-use lib.ListN.{getD}
-use lib.Dec.{eqb}
-use borrow.Author.Tests.{eqb-true, eqb-false}
 use Rattle.refusals.specs.Refusals.{noChunk}
 use Rattle.entries.specs.declared.Place.{Place}
 use Rattle.entries.specs.declared.Kind.the-variants.{Listing}
 use Rattle.quickref.specs.Quickref.{nthIn}
-use Rattle.chunk.specs.Chunk.{Parsed, entryOf}
+use Rattle.chunk.specs.Chunk.{Parsed}
+use Rattle.entries.specs.Entry.{entryOf}
 use Rattle.quickref.specs.declared.Hit.{Hit}
 use Rattle.quickref.specs.declared.Hit.the-variants.{At as HitAt, Nothing as HitNothing}
 use Rattle.header.specs.declared.Record.{Record}

@@ -1,10 +1,5 @@
 -- A step has one refusal: 17, which belongs to no chunk.
-use mathlib.Core.Path.{_≡_, sym}
-use mathlib.Core.Bool.{Bool, true, false, cond}
-use mathlib.Core.List.{List}
-use Prim.Native.Nat.{ℕ}
-use native.Mathlib.Omega.{arith}
-use lib.Dec.{eqb}
+use Rattle.fields.proofs.Base.{_≡_, sym, Bool, true, false, cond, List, ℕ, arith, eqb}
 use Rattle.refusals.specs.Refusals.{noChunk, refusalOf}
 use Rattle.refusals.specs.declared.Refusal.{Refusal}
 use Rattle.chunk.specs.Chunk.{Parsed, entriesIn}

@@ -1,12 +1,7 @@
 -- A run of steps: each reports an entry. The steps from entry 0 of a listing chunk run through its entries, and come to its next chunk.
-use mathlib.Core.Path.{_≡_, refl, sym, ap, _∙_}
-use mathlib.Core.Bool.{true}
-use mathlib.Core.List.{List, [], _∷_, _++_, map}
-use Prim.Native.Nat.{ℕ, zero, suc, _+_, _-_, _<_}
-use native.Mathlib.Omega.{arith}
-use lib.ListN.{length, take, drop, length-drop}
-use lib.Seq.{drop-drop}
-use Rattle.chunk.specs.Chunk.{Entry, entriesIn}
+use Rattle.fields.proofs.Base.{_≡_, refl, sym, ap, _∙_, true, List, [], _∷_, _++_, map, ℕ, zero, suc, _+_, _-_, _<_, arith, length, take, drop, length-drop, drop-drop}
+use Rattle.entries.specs.Entry.{Entry}
+use Rattle.chunk.specs.Chunk.{entriesIn}
 use Rattle.quickref.specs.Quickref.{found, nth}
 use Rattle.header.specs.declared.Record.{Record}
 use Rattle.tree.specs.Shape.{nextOf, listingChunk}

@@ -1,15 +1,11 @@
 -- A step by its cases: one law for each of its answers.
-use mathlib.Core.Path.{_≡_, sym, ap, _∙_}
-use mathlib.Core.Bool.{true, false}
-use mathlib.Core.List.{List}
-use Prim.Native.Nat.{ℕ, _+_, _≤_, _<_}
-use native.Mathlib.Omega.{arith}
-use lib.ListN.{length}
-use borrow.Author.Tests.{lt-ltb, le-ltb, eq-eqb, ne-eqb}
+use Rattle.fields.proofs.Base.{_≡_, sym, ap, _∙_, true, false, List, ℕ, _+_, _≤_, _<_, arith, length, lt-ltb, le-ltb, eq-eqb, ne-eqb}
 use Rattle.refusals.specs.Refusals.{noChunk, refusalOf}
 use Rattle.entries.specs.declared.Place.{Place}
 use Rattle.entries.specs.declared.Kind.the-variants.{Listing}
-use Rattle.chunk.specs.Chunk.{Entry, Parsed, entryOf, entryCount, entriesIn}
+use Rattle.entries.specs.Entry.{Entry, entryOf}
+use Rattle.chunk.specs.Chunk.{Parsed, entriesIn}
+use Rattle.chunk_fields.specs.ChunkFields.{entryCount}
 use Rattle.quickref.specs.Quickref.{absent, found, nth, nthIn}
 use Rattle.quickref.specs.declared.Hit.{Hit}
 use Rattle.quickref.specs.declared.Hit.the-variants.{At, Nothing}

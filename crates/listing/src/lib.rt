@@ -11,7 +11,6 @@ use quickref::Hit;
 use refusals::Refusal;
 use report::Own;
 use report::Report;
-use quickref::Hit;
 
 // The chunk and the number of the entry to be reported next.
 pub struct Cursor {
@@ -48,7 +47,7 @@ fn step_in(file: &[u8], book: Record, at: Cursor, next: u32) -> Step
         return Step::Refused(refusals::refuse(17));
     };
     let r = report::report_of(file, book, at.chunk, e);
-    let total = chunk::entry_count(c) as u64;
+    let total = chunk_fields::entry_count(c) as u64;
     let after = at.entry + 1;
     if after < total {
         return Step::Entry(

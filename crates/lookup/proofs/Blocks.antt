@@ -1,12 +1,8 @@
 -- A lookup reads the blocks of its descent and no other byte: `only-blocks`.
-use mathlib.Core.Path.{_≡_, refl, ap₂}
-use mathlib.Core.Logic.{inl, inr}
-use mathlib.Core.List.{List, [], _∷_}
-use Prim.Native.Nat.{ℕ, _+_}
-use native.Mathlib.Omega.{arith}
-use lib.ListN.{length}
+use Rattle.fields.proofs.Base.{_≡_, refl, ap₂, inl, inr, List, [], _∷_, ℕ, _+_, arith, length}
 use Rattle.names.specs.Names.{compared}
-use Rattle.chunk.specs.Chunk.{Parsed, spacingOf, entriesIn}
+use Rattle.chunk.specs.Chunk.{Parsed, entriesIn}
+use Rattle.chunk_fields.specs.ChunkFields.{spacingOf}
 use Rattle.seek.specs.Count.{comparisons}
 use Rattle.header.specs.declared.Record.{Record}
 use Rattle.tree.specs.Lists.{In}

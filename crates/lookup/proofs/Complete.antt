@@ -1,15 +1,8 @@
 -- On a book that opening accepts a lookup finds exactly what is there, and its trail is the descent: `complete`.
-use mathlib.Core.Path.{_≡_, refl, sym, ap, _∙_}
-use mathlib.Core.Logic.{_≢_}
-use mathlib.Core.List.{List, _++_}
-use Prim.Native.Nat.{ℕ, _≤_}
-use native.Mathlib.Omega.{arith}
-use lib.ListN.{length, drop}
-use lib.Seq.{sets}
-use borrow.Author.Tests.{le-leb}
+use Rattle.fields.proofs.Base.{_≡_, refl, sym, ap, _∙_, _≢_, List, _++_, ℕ, _≤_, arith, length, drop, sets, le-leb}
 use Rattle.fields.proofs.Tests.{never}
 use Rattle.refusals.specs.declared.Refusal.{Refusal}
-use Rattle.chunk.specs.Chunk.{Entry}
+use Rattle.entries.specs.Entry.{Entry}
 use Rattle.header.specs.declared.Record.{Record}
 use Rattle.header.proofs.Accepted.{header-accepted}
 use Rattle.tree.specs.Descent.{Outcome, found, absent, refused, trail}

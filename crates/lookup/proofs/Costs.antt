@@ -1,9 +1,5 @@
 -- What a descent takes is made of what its first chunk and the others take: `effort-one`, `effort-more`.
-use mathlib.Core.Path.{_≡_, ap, ap₂}
-use mathlib.Core.List.{List, [], _∷_}
-use Prim.Native.Nat.{ℕ, suc, _+_}
-use native.Mathlib.Omega.{arith}
-use lib.ListN.{length}
+use Rattle.fields.proofs.Base.{_≡_, ap, ap₂, List, [], _∷_, ℕ, suc, _+_, arith, length}
 use Rattle.header.specs.declared.Record.{Record}
 use Rattle.search.specs.Search.{costAt}
 use Rattle.lookup.specs.Lookup.{costs}

@@ -1,16 +1,10 @@
 -- What the number of comparisons is worth: `counted`.
-use mathlib.Core.Path.{_≡_, refl, sym, ap}
-use mathlib.Core.Logic.{inl, inr}
-use mathlib.Core.Bool.{Bool, true, false, cond}
-use mathlib.Core.List.{List, [], _∷_}
-use Prim.Native.Nat.{ℕ, _+_, _*_, _^_, _≤_}
-use native.Mathlib.Omega.{arith}
-use lib.Dec.{leb}
-use lib.ListN.{length}
+use Rattle.fields.proofs.Base.{_≡_, refl, sym, ap, inl, inr, Bool, true, false, cond, List, [], _∷_, ℕ, _+_, _*_, _^_, _≤_, arith, leb, length}
 use Rattle.fields.proofs.Tests.{never}
 use Rattle.refusals.specs.Refusals.{refusalOf}
 use Rattle.names.specs.Names.{askable, compared}
-use Rattle.chunk.specs.Chunk.{spacingOf, entriesIn}
+use Rattle.chunk_fields.specs.ChunkFields.{spacingOf}
+use Rattle.chunk.specs.Chunk.{entriesIn}
 use Rattle.seek.proofs.Counts.{cost-few}
 use Rattle.header.specs.declared.Record.{Record}
 use Rattle.tree.specs.Lists.{In}

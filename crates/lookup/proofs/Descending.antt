@@ -1,10 +1,5 @@
 -- The descent from one chunk on, made of that chunk's answer and of the descent from its child on.
-use mathlib.Core.Path.{_≡_, refl, sym, ap, _∙_, subst}
-use mathlib.Core.Bool.{Bool, true, false, cond}
-use mathlib.Core.List.{List, [], _∷_}
-use Prim.Native.Nat.{ℕ, suc, _+_, _-_, _≤_, _<_}
-use native.Mathlib.Omega.{arith}
-use lib.ListN.{getD, set}
+use Rattle.fields.proofs.Base.{_≡_, refl, sym, ap, _∙_, subst, Bool, true, false, cond, List, [], _∷_, ℕ, suc, _+_, _-_, _≤_, _<_, arith, getD, set}
 use Rattle.fields.proofs.Tests.{never}
 use Rattle.refusals.specs.Refusals.{refusalOf}
 use Rattle.quickref.specs.Quickref.{Sought}

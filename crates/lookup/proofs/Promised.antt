@@ -1,11 +1,5 @@
 -- What `lookup` promises, from its checks and from the descent.
-use mathlib.Core.Path.{_≡_, refl, sym, ap, ap₂, _∙_}
-use mathlib.Core.Bool.{true, false}
-use mathlib.Core.List.{List}
-use Prim.Native.Nat.{ℕ, _≤_, _<_}
-use native.Mathlib.Omega.{arith}
-use lib.ListN.{length}
-use borrow.Author.Tests.{le-leb, lt-leb}
+use Rattle.fields.proofs.Base.{_≡_, refl, sym, ap, ap₂, _∙_, true, false, List, ℕ, _≤_, _<_, arith, length, le-leb, lt-leb}
 use Rattle.refusals.specs.Refusals.{refusalOf}
 use Rattle.names.specs.Names.{askable}
 use Rattle.header.specs.declared.Record.{Record}

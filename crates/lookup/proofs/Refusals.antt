@@ -1,10 +1,5 @@
 -- Each refusal of a lookup is 15, 16 or 17, and belongs to no chunk.
-use mathlib.Core.Path.{_≡_, sym, ap}
-use mathlib.Core.Bool.{Bool, true, false, cond}
-use mathlib.Core.List.{List}
-use Prim.Native.Nat.{ℕ, _≤_}
-use native.Mathlib.Omega.{arith}
-use lib.Dec.{leb}
+use Rattle.fields.proofs.Base.{_≡_, sym, ap, Bool, true, false, cond, List, ℕ, _≤_, arith, leb}
 use Rattle.refusals.specs.Refusals.{noChunk, refusalOf}
 use Rattle.refusals.specs.declared.Refusal.{Refusal}
 use Rattle.names.specs.Names.{askable}

@@ -1,12 +1,6 @@
 -- What a search without a trail replies: by the checks of name and record (`replied-name`, `replied-record`, `replied-search`), by which refusals
 -- (`replied-refusal`), and what lookup answers where it comes to the descent's outcome (`looked-reply`).
-use mathlib.Core.Path.{_≡_, refl, sym}
-use mathlib.Core.Logic.{_⊎_, inl, inr}
-use mathlib.Core.Bool.{Bool, true, false, cond}
-use mathlib.Core.List.{List}
-use Prim.Native.Nat.{ℕ, _≤_}
-use native.Mathlib.Omega.{arith}
-use borrow.Author.Tests.{le-leb}
+use Rattle.fields.proofs.Base.{_≡_, refl, sym, _⊎_, inl, inr, Bool, true, false, cond, List, ℕ, _≤_, arith, le-leb}
 use Rattle.refusals.specs.Refusals.{refusalOf}
 use Rattle.refusals.specs.declared.Refusal.{Refusal}
 use Rattle.names.specs.Names.{askable}

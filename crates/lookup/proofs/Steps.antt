@@ -1,9 +1,5 @@
 -- What one chunk answers: the search in a listing chunk, and the way from an index chunk.
-use mathlib.Core.Path.{_≡_, refl, sym, ap, _∙_}
-use mathlib.Core.Bool.{Bool, true, false, cond}
-use mathlib.Core.List.{List}
-use Prim.Native.Nat.{ℕ, _+_, _<_}
-use lib.ListN.{getD}
+use Rattle.fields.proofs.Base.{_≡_, refl, sym, ap, _∙_, Bool, true, false, cond, List, ℕ, _+_, _<_, getD}
 use Rattle.refusals.specs.Refusals.{refusalOf}
 use Rattle.names.specs.Names.{compared}
 use Rattle.chunk.specs.Chunk.{entriesIn}

@@ -1,12 +1,6 @@
 -- The trail is written on the way back: a chunk's number goes in front of those that stand behind it already.
-use mathlib.Core.Path.{_≡_, refl, ap, _∙_}
-use mathlib.Core.Bool.{Bool, true, false, cond}
-use mathlib.Core.List.{List, [], _∷_, _++_}
-use Prim.Native.Nat.{ℕ, suc, _+_, _≤_, _<_}
-use native.Mathlib.Numerals.{add-one}
-use native.Mathlib.Omega.{arith}
-use lib.ListN.{length, set, drop}
-use lib.Seq.{set-comm, sets, sets-eq}
+use Rattle.fields.proofs.Base.{_≡_, refl, ap, _∙_, Bool, true, false, cond, List, [], _∷_, _++_, ℕ, suc, _+_, _≤_, _<_, add-one, arith, length, set, drop, sets, sets-eq}
+use lib.Seq.{set-comm}
 use Rattle.lookup.specs.Lookup.{isRefusal, unless}
 use Rattle.lookup.specs.declared.Answer.{Answer}
 

@@ -8,7 +8,7 @@ use Prim.Native.Nat.{ℕ}
 use lib.ListN.{drop}
 use Rattle.refusals.specs.declared.Refusal.{Refusal}
 use Rattle.names.specs.Names.{below}
-use Rattle.chunk.specs.Chunk.{Entry}
+use Rattle.entries.specs.Entry.{Entry}
 use Rattle.header.specs.declared.Record.{Record}
 use Rattle.tree.specs.Shape.{firstName}
 use Rattle.tree.specs.Exact.{Holds}

@@ -3,7 +3,8 @@ use mathlib.Core.Path.{_≡_}
 use mathlib.Core.List.{List}
 use Prim.Native.Nat.{ℕ, _+_, _*_, _^_, _≤_}
 use lib.ListN.{length}
-use Rattle.chunk.specs.Chunk.{spacingOf, quickCount, entriesIn}
+use Rattle.chunk_fields.specs.ChunkFields.{spacingOf, quickCount}
+use Rattle.chunk.specs.Chunk.{entriesIn}
 use Rattle.seek.specs.Count.{Least}
 use Rattle.header.specs.declared.Record.{Record}
 use Rattle.tree.specs.Lists.{In}

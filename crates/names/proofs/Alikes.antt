@@ -1,9 +1,5 @@
 -- Laws of `Alike`: how it is found, how it grows, and that what is alike decides nothing.
-use mathlib.Core.Path.{_≡_, refl, sym, ap, ap₂, _∙_}
-use mathlib.Core.List.{List, _++_}
-use Prim.Native.Nat.{ℕ, _+_, _-_, _≤_, _<_}
-use native.Mathlib.Omega.{arith}
-use lib.ListN.{length, getD, drop}
+use Rattle.fields.proofs.Base.{_≡_, refl, sym, ap, ap₂, _∙_, List, _++_, ℕ, _+_, _-_, _≤_, _<_, arith, length, getD, drop}
 use Rattle.fields.specs.Le.{le}
 use Rattle.fields.specs.Part.{part}
 use Rattle.fields.proofs.Le.{le-tells}

@@ -1,7 +1,5 @@
 -- Examples of the order of names: `/A` and `/a` are equal, `/a` is below `/a.htm`, `/[` is below `/Z`.
-use mathlib.Core.Path.{_≡_, refl}
-use mathlib.Core.Bool.{true}
-use mathlib.Core.List.{[], _∷_}
+use Rattle.fields.proofs.Base.{_≡_, refl, true, [], _∷_}
 use Rattle.names.specs.Order.{byNumber, byElement}
 use Rattle.names.specs.Names.{folded, compared, below, matches}
 

@@ -1,9 +1,5 @@
 -- Laws of the order of names, and what follows from the laws of any order.
-use mathlib.Core.Path.{_≡_, refl, ap, _∙_}
-use mathlib.Core.Logic.{_≢_, _⊎_, inl, inr, ⊎-elim}
-use mathlib.Core.Bool.{Bool, true, false, false≢true}
-use mathlib.Core.List.{List, [], _∷_, _++_}
-use Prim.Native.Nat.{ℕ}
+use Rattle.fields.proofs.Base.{_≡_, refl, ap, _∙_, _≢_, _⊎_, inl, inr, ⊎-elim, Bool, true, false, false≢true, List, [], _∷_, _++_, ℕ}
 use Rattle.names.specs.Order.{flip, isLess, isEqual, byElement, OrderLaws}
 use Rattle.names.specs.Names.{folded, compared, below, matches}
 use Rattle.names.specs.declared.Order.{Order}

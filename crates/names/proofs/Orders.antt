@@ -1,12 +1,6 @@
 -- The laws of comparisons: seen through a function, of numbers, one behind another, of lists. An order that is put together from these has its laws in a line.
-use mathlib.Core.Path.{_≡_, refl, sym, ap₂, _∙_}
-use mathlib.Core.Bool.{false≢true}
-use mathlib.Core.List.{List, [], _∷_, _++_}
-use Prim.Native.Nat.{ℕ, _<_}
-use native.Mathlib.Omega.{arith}
-use native.Mathlib.Decide.{decLt}
+use Rattle.fields.proofs.Base.{_≡_, refl, sym, ap₂, _∙_, false≢true, List, [], _∷_, _++_, ℕ, _<_, arith, decLt, lt-ltb, le-ltb}
 use native.Mathlib.Nat.{le-of-lt, le-refl}
-use borrow.Author.Tests.{lt-ltb, le-ltb}
 use Rattle.names.specs.Order.{flip, thenBy, byNumber, byElement, OrderLaws}
 use Rattle.names.specs.declared.Order.{Order}
 use Rattle.names.specs.declared.Order.the-variants.{Less, Equal, Greater}

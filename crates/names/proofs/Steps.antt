@@ -1,9 +1,5 @@
 -- What one turn of a comparison finds: the two names from index i on.
-use mathlib.Core.Path.{_≡_}
-use mathlib.Core.List.{List}
-use Prim.Native.Nat.{ℕ, _+_, _≤_, _<_}
-use native.Mathlib.Numerals.{add-one}
-use lib.ListN.{length, getD, drop, drop-of-length-le}
+use Rattle.fields.proofs.Base.{_≡_, List, ℕ, _+_, _≤_, _<_, add-one, length, getD, drop, drop-of-length-le}
 use lib.Seq.{drop-cons}
 use Rattle.names.specs.Order.{thenBy, byElement}
 use Rattle.names.specs.Names.{folded, compared}

@@ -1,7 +1,5 @@
 -- What the C functions of the searches without a trail promise, from what was replied.
-use mathlib.Core.Path.{_≡_, refl, ap, _∙_}
-use mathlib.Core.List.{List}
-use Prim.Native.Nat.{ℕ, _≤_}
+use Rattle.fields.proofs.Base.{_≡_, refl, ap, _∙_, List, ℕ, _≤_}
 use Rattle.header.specs.declared.Record.{Record}
 use Rattle.opening.specs.Opened.{opened}
 use Rattle.opening.specs.declared.Opened.the-variants.{Book}

@@ -1,10 +1,5 @@
 -- What opening has established of a book that it accepts: `opened-book`.
-use mathlib.Core.Path.{_≡_, refl, subst, ap}
-use mathlib.Core.Bool.{Bool, true, false, cond}
-use mathlib.Core.List.{List}
-use Prim.Native.Nat.{ℕ, zero, suc, _+_, _≤_, _<_}
-use native.Mathlib.Omega.{arith}
-use native.Mathlib.Decide.{ℕ-discrete}
+use Rattle.fields.proofs.Base.{_≡_, refl, subst, ap, Bool, true, false, cond, List, ℕ, zero, suc, _+_, _≤_, _<_, arith, ℕ-discrete}
 use Rattle.refusals.specs.Refusals.{refusalOf}
 use Rattle.chunk.specs.Chunk.{Parsed, bad, listing, index, isGood}
 use Rattle.header.specs.Header.{headerOf}

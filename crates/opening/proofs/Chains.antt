@@ -1,9 +1,5 @@
 -- The run along the chain, link by link: what a link tells of the run.
-use mathlib.Core.Path.{_≡_, refl, ap, _∙_}
-use mathlib.Core.Bool.{Bool, true, false, cond, _&&_}
-use Prim.Native.Nat.{ℕ, suc, _-_, _<_}
-use native.Mathlib.Omega.{arith}
-use lib.Dec.{eqb}
+use Rattle.fields.proofs.Base.{_≡_, refl, ap, _∙_, Bool, true, false, cond, _&&_, ℕ, suc, _-_, _<_, arith, eqb}
 use Rattle.fields.proofs.Tests.{and-no}
 use Rattle.refusals.specs.Refusals.{noChunk}
 use Rattle.names.specs.Names.{below}

@@ -1,15 +1,11 @@
 -- The first and the last entry of a good chunk: they are there, lie inside its bytes, and have its first and its last name.
-use mathlib.Core.Path.{_≡_, sym, ap, subst}
-use mathlib.Core.Bool.{true}
-use mathlib.Core.List.{List, [], _∷_}
-use Prim.Native.Nat.{ℕ, _+_, _-_, _≤_, _<_}
-use native.Mathlib.Omega.{arith}
-use lib.ListN.{length}
-use Rattle.entries.specs.Entry.{nameOf}
+use Rattle.fields.proofs.Base.{_≡_, sym, ap, subst, true, List, [], _∷_, ℕ, _+_, _-_, _≤_, _<_, arith, length}
+use Rattle.entries.specs.Entry.{nameOf, Entry}
 use Rattle.entries.specs.declared.Limits.{Limits}
 use Rattle.entries.specs.declared.Place.{Place}
 use Rattle.entries.proofs.Laws.{item-inside}
-use Rattle.chunk.specs.Chunk.{Entry, firstPlace, entryCount, tailLength, parsed, entriesIn, isKind, kindOf}
+use Rattle.chunk.specs.Chunk.{parsed, entriesIn, isKind}
+use Rattle.chunk_fields.specs.ChunkFields.{firstPlace, entryCount, tailLength, kindOf}
 use Rattle.chunk.proofs.Accepted.{chunk-accepted, entries-count}
 use Rattle.quickref.specs.Quickref.{Sought, absent, found, nth, nameIn, final, soughtOf, nthIn, firstIn, lastIn}
 use Rattle.quickref.specs.declared.Hit.{Hit}

@@ -1,9 +1,5 @@
 -- Chain and tree as the code checks them are chain and tree as they are defined.
-use mathlib.Core.Path.{_≡_, sym}
-use mathlib.Core.Bool.{cond}
-use mathlib.Core.List.{List}
-use Prim.Native.Nat.{ℕ, _-_, _≤_}
-use native.Mathlib.Omega.{arith}
+use Rattle.fields.proofs.Base.{_≡_, sym, cond, List, ℕ, _-_, _≤_, arith}
 use Rattle.refusals.specs.Refusals.{refusalOf}
 use Rattle.header.specs.declared.Record.{Record}
 use Rattle.tree.specs.Shape.{GoodChunks}

@@ -1,12 +1,5 @@
 -- Each refusal of opening bears a number of the table, and the place that belongs to it: `refusal-told`.
-use mathlib.Core.Path.{_≡_, refl, sym, ap, subst, _∙_}
-use mathlib.Core.Bool.{Bool, true, false, cond}
-use mathlib.Core.List.{List, []}
-use Prim.Native.Nat.{ℕ, zero, suc, _+_, _-_, _≤_, _<_}
-use native.Mathlib.Omega.{arith}
-use native.Mathlib.Decide.{ℕ-discrete}
-use lib.ListN.{length}
-use lib.Dec.{eqb}
+use Rattle.fields.proofs.Base.{_≡_, refl, sym, ap, subst, _∙_, Bool, true, false, cond, List, [], ℕ, zero, suc, _+_, _-_, _≤_, _<_, arith, ℕ-discrete, length, eqb}
 use Rattle.fields.specs.Same.{standsAt}
 use Rattle.refusals.specs.Refusals.{noChunk, refusalOf}
 use Rattle.refusals.specs.declared.Refusal.{Refusal}
@@ -14,7 +7,9 @@ use Rattle.entries.specs.declared.Limits.{Limits}
 use Rattle.entries.specs.declared.Kind.{Kind}
 use Rattle.entries.specs.declared.Kind.the-variants.{Listing, Index}
 use Rattle.entries.specs.Rising.{rising}
-use Rattle.chunk.specs.Chunk.{Entries, broken, all, Parsed, bad, tagOf, parsedWith, entriesAt, quick, firstPlace, entryCount, tailLength, spacingOf, framed, checkedEntries, parsedAs, parsed, entryName, listing, index, isGood}
+use Rattle.chunk.specs.Chunk.{Entries, broken, all, Parsed, bad, parsedWith, entriesAt, quick, framed, checkedEntries, parsedAs, parsed, listing, index, isGood}
+use Rattle.entries.specs.Entry.{entryName}
+use Rattle.chunk_fields.specs.ChunkFields.{tagOf, firstPlace, entryCount, tailLength, spacingOf}
 use Rattle.header.specs.Header.{headerOf}
 use Rattle.header.specs.declared.Record.{Record}
 use Rattle.header.specs.declared.CheckedHeader.{CheckedHeader}

@@ -1,10 +1,5 @@
 -- The pass over all chunks: one turn of its loop, and what its answer tells.
-use mathlib.Core.Path.{_≡_, refl, sym, ap, _∙_}
-use mathlib.Core.Bool.{true, cond}
-use Prim.Native.Nat.{ℕ, zero, suc, _+_, _-_, _≤_, _<_}
-use native.Mathlib.Omega.{arith}
-use native.Mathlib.Decide.{ℕ-discrete}
-use native.Mathlib.Numerals.{add-one}
+use Rattle.fields.proofs.Base.{_≡_, refl, sym, ap, _∙_, true, cond, ℕ, zero, suc, _+_, _-_, _≤_, _<_, arith, ℕ-discrete, add-one}
 use Rattle.refusals.specs.Refusals.{refusalAt}
 use Rattle.chunk.specs.Chunk.{Parsed, bad, listing, index, isGood}
 use Rattle.chunk.specs.Answer.{chunkOf}

@@ -1,12 +1,11 @@
 -- A good chunk's kind is what its tag says, and a good listing chunk's links are those that stand in it.
-use mathlib.Core.Path.{_≡_, refl, ap, _∙_}
-use mathlib.Core.Bool.{true, false}
-use mathlib.Core.List.{List}
-use Prim.Native.Nat.{ℕ, _<_}
+use Rattle.fields.proofs.Base.{_≡_, refl, ap, _∙_, true, false, List, ℕ, _<_}
 use Rattle.fields.proofs.Tests.{never}
 use Rattle.entries.specs.declared.Kind.{Kind}
 use Rattle.entries.specs.declared.Kind.the-variants.{Listing, Index}
-use Rattle.chunk.specs.Chunk.{parsedWith, isKind, Entry, kindOf, previousLink, nextLink, entriesIn}
+use Rattle.chunk.specs.Chunk.{parsedWith, isKind, entriesIn}
+use Rattle.entries.specs.Entry.{Entry}
+use Rattle.chunk_fields.specs.ChunkFields.{kindOf, previousLink, nextLink}
 use Rattle.chunk.proofs.Accepted.{good-made}
 use Rattle.header.specs.declared.Record.{Record}
 use Rattle.tree.specs.Shape.{isListing, isIndex, previousOf, nextOf, listingChunk, indexChunk}

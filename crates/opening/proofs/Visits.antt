@@ -1,15 +1,12 @@
 -- The visit of an index chunk's entries, one by one over its bytes.
-use mathlib.Core.Path.{_≡_, refl, sym, subst}
-use mathlib.Core.Bool.{Bool, true, false, cond}
-use mathlib.Core.List.{List, [], _∷_}
-use Prim.Native.Nat.{ℕ, zero, suc, _-_, _≤_, _<_}
-use native.Mathlib.Omega.{arith}
+use Rattle.fields.proofs.Base.{_≡_, refl, sym, subst, Bool, true, false, cond, List, [], _∷_, ℕ, zero, suc, _-_, _≤_, _<_, arith}
 use Rattle.fields.specs.Same.{same}
-use Rattle.entries.specs.Entry.{nameOf, withItem}
+use Rattle.entries.specs.Entry.{nameOf, withItem, Entry, entryOf}
 use Rattle.entries.specs.declared.Place.{Place}
 use Rattle.entries.specs.declared.Item.{Item}
 use Rattle.entries.specs.declared.Kind.the-variants.{Index}
-use Rattle.chunk.specs.Chunk.{Parsed, Entry, all, entryOf, entriesAt, entryCount, tailLength, entriesIn, firstPlace}
+use Rattle.chunk.specs.Chunk.{Parsed, all, entriesAt, entriesIn}
+use Rattle.chunk_fields.specs.ChunkFields.{entryCount, tailLength, firstPlace}
 use Rattle.chunk.proofs.Accepted.{chunk-accepted, entries-more, entries-none}
 use Rattle.header.specs.declared.Record.{Record}
 use Rattle.tree.specs.Shape.{Shape, firstName, nextOf, isIndex, listingChunk}

@@ -78,7 +78,7 @@ fn is_listing(file: &[u8], book: Record, c: u64) -> bool
     if book.count <= c {
         return false;
     }
-    match chunk::kind_of(book::chunk_bytes(file, book, c)) {
+    match chunk_fields::kind_of(book::chunk_bytes(file, book, c)) {
         Kind::Listing => true,
         Kind::Index => false,
     }
@@ -92,7 +92,7 @@ fn is_index(file: &[u8], book: Record, c: u64) -> bool
     if book.count <= c {
         return false;
     }
-    match chunk::kind_of(book::chunk_bytes(file, book, c)) {
+    match chunk_fields::kind_of(book::chunk_bytes(file, book, c)) {
         Kind::Listing => false,
         Kind::Index => true,
     }
@@ -104,7 +104,11 @@ fn first_of(file: &[u8], book: Record, c: u64) -> Hit
     ensures { λ r. ⌜ FirstHit (now (file .entry)) book c r ⌝ }
 {
     let bytes = book::chunk_bytes(file, book, c);
-    quickref::first_entry(bytes, book::limits(file, book), chunk::kind_of(bytes))
+    quickref::first_entry(
+        bytes,
+        book::limits(file, book),
+        chunk_fields::kind_of(bytes),
+    )
 }
 
 // The first name of a chunk of a good book, in its bytes.
@@ -160,10 +164,10 @@ fn link_from(file: &[u8], book: Record, previous: u64, c: u64) -> Link
         return Link::Broken;
     }
     let bytes = book::chunk_bytes(file, book, c);
-    if chunk::previous_link(bytes) as u64 != previous {
+    if chunk_fields::previous_link(bytes) as u64 != previous {
         return Link::Broken;
     }
-    let next = chunk::next_link(bytes) as u64;
+    let next = chunk_fields::next_link(bytes) as u64;
     if next == refusals::no_chunk() as u64 {
         return Link::Last;
     }
@@ -216,7 +220,7 @@ fn leaf(file: &[u8], book: Record, c: u64, left: u64) -> Progress
         return Progress::Stopped;
     }
     Progress::Going(
-        chunk::next_link(book::chunk_bytes(file, book, c)) as u64,
+        chunk_fields::next_link(book::chunk_bytes(file, book, c)) as u64,
         left,
     )
 }
@@ -259,8 +263,8 @@ fn walk_tree(file: &[u8], book: Record, level: u64, c: u64, expected: u64, left:
     if !is_index(file, book, c) {
         return Progress::Stopped;
     }
-    let mut at = chunk::first_place(Kind::Index);
-    let mut rest = chunk::entry_count(book::chunk_bytes(file, book, c));
+    let mut at = chunk_fields::first_place(Kind::Index);
+    let mut rest = chunk_fields::entry_count(book::chunk_bytes(file, book, c));
     let mut next = expected;
     let mut k = left - 1;
     while 0 < rest {

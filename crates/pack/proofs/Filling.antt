@@ -1,18 +1,10 @@
 -- What one chunk takes of the entries from a cursor on: as a whole (`extent-is`), and entry by entry as a loop finds it (`fitted`, `full`).
-use mathlib.Core.Path.{_≡_, refl, sym, ap, subst, _∙_}
-use mathlib.Core.Bool.{Bool, true, false, cond}
-use mathlib.Core.List.{List, [], _∷_}
-use Prim.Native.Nat.{ℕ, suc, _+_, _-_, _*_, _≤_, _<_}
-use native.Mathlib.Omega.{arith}
-use native.Mathlib.Nat.{add-zero}
-use native.Mathlib.Decide.{decLe}
-use lib.ListN.{length, take}
-use borrow.Author.Tests.{leb-true, lt-leb}
+use Rattle.fields.proofs.Base.{_≡_, refl, sym, ap, subst, _∙_, Bool, true, false, cond, List, [], _∷_, ℕ, suc, _+_, _-_, _*_, _≤_, _<_, arith, add-zero, decLe, length, take, leb-true, lt-leb}
 use Rattle.entries.specs.declared.Place.{Place}
 use Rattle.entries.specs.declared.Item.{Item}
 use Rattle.entries.specs.declared.Item.the-variants.{Good}
 use Rattle.entries.specs.declared.Kind.{Kind}
-use Rattle.chunk.specs.Chunk.{firstPlace, quickCount}
+use Rattle.chunk_fields.specs.ChunkFields.{firstPlace, quickCount}
 use Rattle.source.specs.Source.{itemFrom, endOf, rowsFrom}
 use Rattle.entries.proofs.Laws.{onItem}
 use Rattle.source.proofs.Rows.{row-of, run-none, run-spent, run-more}

@@ -1,13 +1,7 @@
 -- Levels: one chunk after another as a loop finds them (`chunks-more`), what they hold (`chunks-given`, `chunks-children`), and the places of
 -- their first names (`starts-of`).
-use mathlib.Core.Path.{_≡_, refl, sym, ap, ap₂, subst, _∙_}
-use mathlib.Core.List.{List, [], _∷_, _++_, map}
-use Prim.Native.Nat.{ℕ, zero, suc, _+_, _-_, _<_}
-use native.Mathlib.Omega.{arith}
-use native.Mathlib.Nat.{zero-add}
-use lib.ListN.{length, take, drop, getD, length-append}
+use Rattle.fields.proofs.Base.{_≡_, refl, sym, ap, ap₂, subst, _∙_, List, [], _∷_, _++_, map, ℕ, zero, suc, _+_, _-_, _<_, arith, zero-add, length, take, drop, getD, length-append, lt-ltb}
 use lib.Seq.{append-snoc, getD-append-seam}
-use borrow.Author.Tests.{lt-ltb}
 use Rattle.fields.specs.Part.{part}
 use Rattle.fields.proofs.Parts.{length-part}
 use Rattle.encint.specs.declared.Number.{Number}

@@ -1,7 +1,7 @@
 // Where chunks are cut: how many entries a chunk takes.
 ghost use mathlib.Core.Path.{_≡_};
 ghost use Prim.Native.Nat.{_+_};
-ghost use Rattle.chunk.specs.Chunk.{quickCount};
+ghost use Rattle.chunk_fields.specs.ChunkFields.{quickCount};
 ghost use Rattle.source.specs.Source.{rowsFrom};
 ghost use Rattle.pack.specs.Groups.{fits as fitsIn};
 ghost use Rattle.pack.specs.Fill.{sizeOf, fitOf, extentFrom};
@@ -45,7 +45,7 @@ pub fn fits_chunk(kind: Kind, n: usize, count: usize, bytes: usize) -> bool
     if 2047 < words {
         return false;
     }
-    chunk::first_place(kind) + bytes + (2 * words + 2) <= 4096
+    chunk_fields::first_place(kind) + bytes + (2 * words + 2) <= 4096
 }
 
 // How many bytes an entry takes where it is written from its numbers; 4,097 where its name alone is longer than a chunk.

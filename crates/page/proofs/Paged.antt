@@ -1,12 +1,6 @@
 -- A page gives what the steps give, for any file and any record: its numbers are those of the entries that the steps from entry 0 of its chunk
 -- report while they stay in that chunk, and its next chunk is the one that they go on in.
-use mathlib.Core.Path.{_≡_, refl, sym, ap, _∙_}
-use mathlib.Core.Bool.{Bool, true, false, cond}
-use mathlib.Core.List.{List}
-use Prim.Native.Nat.{ℕ}
-use native.Mathlib.Omega.{arith}
-use lib.ListN.{length, length-map}
-use lib.Seq.{sets}
+use Rattle.fields.proofs.Base.{_≡_, refl, sym, ap, _∙_, Bool, true, false, cond, List, ℕ, arith, length, length-map, sets}
 use Rattle.fields.proofs.Tests.{and-both}
 use Rattle.refusals.specs.Refusals.{refusalOf}
 use Rattle.chunk.specs.Chunk.{entriesIn}

@@ -1,14 +1,8 @@
 -- A page by its cases: the answer and the lent slice for each of its answers.
-use mathlib.Core.Path.{_≡_}
-use mathlib.Core.Bool.{true, false}
-use mathlib.Core.List.{List}
-use Prim.Native.Nat.{ℕ, _*_, _≤_, _<_}
-use native.Mathlib.Omega.{arith}
-use lib.ListN.{length}
-use lib.Seq.{sets}
-use borrow.Author.Tests.{le-leb, lt-leb}
+use Rattle.fields.proofs.Base.{_≡_, true, false, List, ℕ, _*_, _≤_, _<_, arith, length, sets, le-leb, lt-leb}
 use Rattle.refusals.specs.Refusals.{refusalOf}
-use Rattle.chunk.specs.Chunk.{entryCount, entriesIn}
+use Rattle.chunk_fields.specs.ChunkFields.{entryCount}
+use Rattle.chunk.specs.Chunk.{entriesIn}
 use Rattle.header.specs.declared.Record.{Record}
 use Rattle.tree.specs.Shape.{nextOf, listingChunk}
 use Rattle.tree.proofs.Chunks.{listing-chunk}

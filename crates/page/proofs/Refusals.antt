@@ -1,10 +1,5 @@
 -- A page has one refusal: 17, which belongs to no chunk.
-use mathlib.Core.Path.{_≡_, sym}
-use mathlib.Core.Bool.{Bool, true, false, cond}
-use mathlib.Core.List.{List}
-use Prim.Native.Nat.{ℕ}
-use native.Mathlib.Omega.{arith}
-use lib.ListN.{length}
+use Rattle.fields.proofs.Base.{_≡_, sym, Bool, true, false, cond, List, ℕ, arith, length}
 use Rattle.refusals.specs.Refusals.{refusalOf}
 use Rattle.refusals.specs.declared.Refusal.{Refusal}
 use Rattle.chunk.specs.Chunk.{entriesIn}

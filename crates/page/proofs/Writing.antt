@@ -1,17 +1,12 @@
 -- A page as it is written: the numbers of the entries that are left make the whole.
-use mathlib.Core.Path.{_≡_, refl, sym, ap, _∙_}
-use mathlib.Core.Bool.{true}
-use mathlib.Core.List.{List, [], _∷_, _++_, map, flatMap}
-use Prim.Native.Nat.{ℕ, suc, _+_, _-_, _*_, _≤_, _<_}
-use native.Mathlib.Omega.{arith}
-use lib.ListN.{length, drop, set, drop-of-length-le}
-use lib.Seq.{sets, length-sets}
+use Rattle.fields.proofs.Base.{_≡_, refl, sym, ap, _∙_, true, List, [], _∷_, _++_, map, flatMap, ℕ, suc, _+_, _-_, _*_, _≤_, _<_, arith, length, drop, set, drop-of-length-le, sets, length-sets}
 use Rattle.fields.proofs.Put.{sets-after}
-use Rattle.entries.specs.Entry.{itemAt}
+use Rattle.entries.specs.Entry.{itemAt, Entry}
 use Rattle.entries.specs.declared.Place.{Place}
 use Rattle.entries.specs.declared.Item.the-variants.{Good, Bad}
 use Rattle.entries.specs.declared.Kind.the-variants.{Listing}
-use Rattle.chunk.specs.Chunk.{Entry, all, entriesAt, firstPlace, entryCount, tailLength, entriesIn}
+use Rattle.chunk.specs.Chunk.{all, entriesAt, entriesIn}
+use Rattle.chunk_fields.specs.ChunkFields.{firstPlace, entryCount, tailLength}
 use Rattle.header.specs.declared.Record.{Record}
 use Rattle.tree.specs.Shape.{isListing}
 use Rattle.book.specs.Book.{limitsOf, chunkBytes, directoryOf}

@@ -4,7 +4,7 @@ ghost use mathlib.Core.Bool.{true};
 ghost use Prim.Native.Nat.{_+_, _*_, _≤_};
 ghost use lib.ListN.{length};
 ghost use lib.Seq.{sets};
-ghost use Rattle.chunk.specs.Chunk.{entryCount};
+ghost use Rattle.chunk_fields.specs.ChunkFields.{entryCount};
 ghost use Rattle.tree.specs.Shape.{isListing};
 ghost use Rattle.book.specs.Book.{chunkBytes, directoryOf};
 ghost use Rattle.listing.specs.Listing.{reportsIn};
@@ -43,8 +43,8 @@ fn put_reports(file: &[u8], book: Record, chunk: u64, out: &mut [u64])
 {
     let c = book::chunk_bytes(file, book, chunk);
     let limits = book::limits(file, book);
-    let total = chunk::entry_count(c) as usize;
-    let mut at = chunk::first_place(Kind::Listing);
+    let total = chunk_fields::entry_count(c) as usize;
+    let mut at = chunk_fields::first_place(Kind::Listing);
     let mut i: usize = 0;
     while i < total {
         let Item::Good(e) = entries::listing_at(c, at, limits.content) else {
@@ -69,7 +69,7 @@ pub fn chunk_page(file: &[u8], book: Record, chunk: u64, out: &mut [u64]) -> Pag
         Chunk::Index => return Page::Refused(refusals::refuse(17)),
         Chunk::Refused(_) => return Page::Refused(refusals::refuse(17)),
     };
-    let total = chunk::entry_count(book::chunk_bytes(file, book, chunk)) as u32;
+    let total = chunk_fields::entry_count(book::chunk_bytes(file, book, chunk)) as u32;
     if out.len() < 5 * (total as usize) {
         return Page::Short;
     }

@@ -1,18 +1,12 @@
 -- On a chunk that passes its check, entry i by its quick words is entry i of its entries.
 --     nth-good       entry i
 --     last-good      the last entry
-use mathlib.Core.Path.{_≡_, refl, sym, ap, _∙_}
-use mathlib.Core.List.{List, [], _∷_}
-use mathlib.Core.Bool.{true}
-use Prim.Native.Nat.{ℕ, zero, suc, _+_, _-_, _*_, _/_, _%_, _≤_, _<_}
-use native.Mathlib.Omega.{arith}
-use native.Mathlib.Decide.{decLt}
-use native.Mathlib.Nat.{div-add-mod'}
-use lib.ListN.{length, drop}
-use borrow.Author.Tests.{lt-ltb, le-ltb}
+use Rattle.fields.proofs.Base.{_≡_, refl, sym, ap, _∙_, List, [], _∷_, true, ℕ, zero, suc, _+_, _-_, _*_, _/_, _%_, _≤_, _<_, arith, decLt, div-add-mod', length, drop, lt-ltb, le-ltb}
 use Rattle.entries.specs.declared.Limits.{Limits}
 use Rattle.entries.specs.declared.Kind.{Kind}
-use Rattle.chunk.specs.Chunk.{Entry, all, entryOf, entriesAt, entryCount, tailLength, spacingOf, parsed, entriesIn, isKind}
+use Rattle.entries.specs.Entry.{Entry, entryOf}
+use Rattle.chunk.specs.Chunk.{all, entriesAt, parsed, entriesIn, isKind}
+use Rattle.chunk_fields.specs.ChunkFields.{entryCount, tailLength, spacingOf}
 use Rattle.chunk.proofs.Accepted.{Accepted, chunk-accepted, entries-more}
 use Rattle.quickref.specs.Quickref.{absent, found, nth, final, soughtOf, afterAt, groupAt, nthIn, lastIn}
 use Rattle.quickref.proofs.Groups.{group-entries, entries-counted}

@@ -1,16 +1,12 @@
 -- Groups of entries in a chunk that passes its check: where each begins, and the entries from there on.
 --     group-entries  the entries from a group on
-use mathlib.Core.Path.{_≡_, refl, sym, ap, ap₂, _∙_}
-use mathlib.Core.List.{List, [], _∷_}
-use Prim.Native.Nat.{ℕ, zero, suc, _-_, _*_, _<_}
-use native.Mathlib.Omega.{arith}
-use native.Mathlib.Decide.{ℕ-discrete}
-use lib.ListN.{length, getD, drop}
-use borrow.Author.Tests.{eq-eqb, ne-eqb}
+use Rattle.fields.proofs.Base.{_≡_, refl, sym, ap, ap₂, _∙_, List, [], _∷_, ℕ, zero, suc, _-_, _*_, _<_, arith, ℕ-discrete, length, getD, drop, eq-eqb, ne-eqb}
 use Rattle.entries.specs.declared.Limits.{Limits}
 use Rattle.entries.proofs.Laws.{item-inside}
 use Rattle.entries.specs.declared.Kind.{Kind}
-use Rattle.chunk.specs.Chunk.{Entry, all, entriesAt, firstPlace, entryCount, tailLength, spacingOf}
+use Rattle.entries.specs.Entry.{Entry}
+use Rattle.chunk.specs.Chunk.{all, entriesAt}
+use Rattle.chunk_fields.specs.ChunkFields.{firstPlace, entryCount, tailLength, spacingOf}
 use Rattle.chunk.proofs.Accepted.{Accepted, entries-more, entries-count}
 use Rattle.chunk.proofs.Quick.{word}
 use Rattle.quickref.specs.Quickref.{nth, nameIn, groupAt}

@@ -1,10 +1,5 @@
 -- What one turn of a walk over a chunk's bytes finds, with `left` entries left and the next at a place.
-use mathlib.Core.Path.{_≡_, refl, ap, _∙_}
-use mathlib.Core.List.{List}
-use Prim.Native.Nat.{ℕ, zero, suc, _-_, _/_, _%_, _≤_, _<_}
-use native.Mathlib.Omega.{arith}
-use lib.Dec.{ltb}
-use borrow.Author.Tests.{ltb-true}
+use Rattle.fields.proofs.Base.{_≡_, refl, ap, _∙_, List, ℕ, zero, suc, _-_, _/_, _%_, _≤_, _<_, arith, ltb, ltb-true}
 use Rattle.entries.specs.Entry.{itemAt, withItem}
 use Rattle.entries.specs.declared.Limits.{Limits}
 use Rattle.entries.specs.declared.Place.{Place}
@@ -12,7 +7,7 @@ use Rattle.entries.specs.declared.Item.{Item}
 use Rattle.entries.specs.declared.Item.the-variants.{Good, Bad}
 use Rattle.entries.proofs.Laws.{onItem, test-passed}
 use Rattle.entries.specs.declared.Kind.{Kind}
-use Rattle.chunk.specs.Chunk.{entryCount, spacingOf}
+use Rattle.chunk_fields.specs.ChunkFields.{entryCount, spacingOf}
 use Rattle.quickref.specs.Quickref.{afterAt, groupAt, nthIn}
 use Rattle.quickref.specs.declared.Hit.the-variants.{At, Nothing}
 

@@ -4,10 +4,10 @@ use Prim.Native.Nat.{ℕ, zero, suc, _+_, _-_, _/_, _%_}
 use mathlib.Core.List.{List, [], _∷_}
 use mathlib.Core.Bool.{cond}
 use lib.Dec.{ltb, eqb}
-use Rattle.entries.specs.Entry.{itemAt, withItem}
+use Rattle.entries.specs.Entry.{itemAt, withItem, Entry, entryOf}
 use Rattle.entries.specs.declared.Limits.{Limits}
 use Rattle.entries.specs.declared.Kind.{Kind}
-use Rattle.chunk.specs.Chunk.{Entry, entryOf, firstPlace, entryCount, spacingOf, quickWord}
+use Rattle.chunk_fields.specs.ChunkFields.{firstPlace, entryCount, spacingOf, quickWord}
 use Rattle.quickref.specs.declared.Hit.{Hit}
 use Rattle.quickref.specs.declared.Hit.the-variants.{At, Nothing}
 

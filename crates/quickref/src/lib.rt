@@ -15,11 +15,11 @@ pub enum Hit {
 fn group_at(c: &[u8], kind: Kind, g: usize) -> usize
     ensures { λ r. ⌜ r ≡ groupAt kind (now (c .entry)) g ⌝ }
 {
-    let first = chunk::first_place(kind);
+    let first = chunk_fields::first_place(kind);
     if g == 0 {
         return first;
     }
-    first + fields::le16(c, chunk::quick_place(g)) as usize
+    first + fields::le16(c, chunk_fields::quick_place(g)) as usize
 }
 
 // The entry behind `past` others, the first of which stands at `from`.
@@ -45,11 +45,11 @@ fn entry_behind(c: &[u8], limits: Limits, kind: Kind, past: usize, from: usize) 
 pub fn nth_entry(c: &[u8], limits: Limits, kind: Kind, i: usize) -> Hit
     ensures { λ r. ⌜ r ≡ nthIn limits kind (now (c .entry)) i ⌝ }
 {
-    let total = chunk::entry_count(c) as usize;
+    let total = chunk_fields::entry_count(c) as usize;
     if total <= i {
         return Hit::Nothing;
     }
-    let n = chunk::spacing(limits.density);
+    let n = chunk_fields::spacing(limits.density);
     entry_behind(c, limits, kind, i % n, group_at(c, kind, i / n))
 }
 
@@ -64,7 +64,7 @@ pub fn first_entry(c: &[u8], limits: Limits, kind: Kind) -> Hit
 pub fn last_entry(c: &[u8], limits: Limits, kind: Kind) -> Hit
     ensures { λ r. ⌜ r ≡ lastIn limits kind (now (c .entry)) ⌝ }
 {
-    let total = chunk::entry_count(c) as usize;
+    let total = chunk_fields::entry_count(c) as usize;
     if total < 1 {
         return Hit::Nothing;
     }

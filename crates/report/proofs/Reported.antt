@@ -1,22 +1,17 @@
 -- What was read in a chunk that has its bytes is reported as its entry says; the own bytes of an entry are its name and the numbers that are reported.
-use mathlib.Core.Path.{_≡_, sym, ap, _∙_}
-use mathlib.Core.Bool.{true}
-use mathlib.Core.List.{List}
-use Prim.Native.Nat.{ℕ, _+_, _-_, _≤_, _<_}
-use native.Mathlib.Omega.{arith}
-use lib.ListN.{length, getD}
-use borrow.Author.Tests.{le-leb}
+use Rattle.fields.proofs.Base.{_≡_, sym, ap, _∙_, true, List, ℕ, _+_, _-_, _≤_, _<_, arith, length, getD, le-leb}
 use Rattle.fields.specs.Part.{part, partOf}
 use Rattle.fields.proofs.Parts.{length-part}
 use Rattle.encint.specs.Encint.{encoded}
-use Rattle.entries.specs.Entry.{itemAt, nameOf}
+use Rattle.entries.specs.Entry.{itemAt, nameOf, Entry, entryOf}
 use Rattle.entries.specs.declared.Limits.{Limits}
 use Rattle.entries.specs.declared.Place.{Place}
 use Rattle.entries.specs.declared.Item.the-variants.{Good}
 use Rattle.entries.proofs.Laws.{item-inside}
 use Rattle.entries.proofs.Padded.{entry-stands}
 use Rattle.entries.specs.declared.Kind.the-variants.{Listing}
-use Rattle.chunk.specs.Chunk.{Entry, entryOf, entryCount, entriesIn}
+use Rattle.chunk.specs.Chunk.{entriesIn}
+use Rattle.chunk_fields.specs.ChunkFields.{entryCount}
 use Rattle.quickref.specs.Quickref.{absent, found, nth, soughtOf, nthIn}
 use Rattle.quickref.specs.declared.Hit.the-variants.{At, Nothing}
 use Rattle.quickref.proofs.Steps.{nth-read}

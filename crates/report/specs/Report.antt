@@ -9,7 +9,7 @@ use Rattle.fields.specs.Part.{partOf}
 use Rattle.encint.specs.Encint.{encoded}
 use Rattle.entries.specs.Padded.{PaddedEntry}
 use Rattle.entries.specs.declared.Place.{Place}
-use Rattle.chunk.specs.Chunk.{Entry}
+use Rattle.entries.specs.Entry.{Entry}
 use Rattle.header.specs.declared.Record.{Record}
 use Rattle.book.specs.Book.{chunkPlace}
 use Rattle.report.specs.declared.Report.{Report}

@@ -1,16 +1,10 @@
 -- The chain of a new directory: its listing chunks in the order of their numbers, and it passes its check.
-use mathlib.Core.Path.{_≡_, refl, sym, ap, subst, _∙_}
-use mathlib.Core.Bool.{true, false, not, _||_}
-use mathlib.Core.List.{List, [], _∷_, flatten}
-use Prim.Native.Nat.{ℕ, zero, suc, _+_, _-_, _≤_, _<_}
-use native.Mathlib.Omega.{arith}
-use lib.ListN.{length}
-use lib.Dec.{eqb}
-use borrow.Author.Tests.{lt-ltb, le-ltb, eq-eqb, ne-eqb}
+use Rattle.fields.proofs.Base.{_≡_, refl, sym, ap, subst, _∙_, true, false, not, _||_, List, [], _∷_, flatten, ℕ, zero, suc, _+_, _-_, _≤_, _<_, arith, length, eqb, lt-ltb, le-ltb, eq-eqb, ne-eqb}
 use Rattle.refusals.specs.Refusals.{noChunk}
 use Rattle.names.specs.Names.{below}
 use Rattle.entries.specs.declared.Kind.the-variants.{Listing}
-use Rattle.chunk.specs.Chunk.{Parsed, firstPlace}
+use Rattle.chunk.specs.Chunk.{Parsed}
+use Rattle.chunk_fields.specs.ChunkFields.{firstPlace}
 use Rattle.tree.specs.Lists.{member, everyBelow}
 use Rattle.tree.specs.Shape as shape
 use Rattle.tree.specs.Shape.{Shape, isListing, lastName, listingChunk}

@@ -1,10 +1,5 @@
 -- The headers of a new book, read back: each field holds the number that was written there.
-use mathlib.Core.Path.{_≡_, refl, ap, _∙_}
-use mathlib.Core.Bool.{true}
-use mathlib.Core.List.{List, _++_, flatten}
-use Prim.Native.Nat.{ℕ, _+_, _*_, _^_, _<_}
-use native.Mathlib.Omega.{arith}
-use lib.ListN.{length, take, drop}
+use Rattle.fields.proofs.Base.{_≡_, refl, ap, _∙_, true, List, _++_, flatten, ℕ, _+_, _*_, _^_, _<_, arith, length, take, drop}
 use Rattle.fields.specs.Le.{le, bytes}
 use Rattle.fields.specs.Same.{same, standsAt}
 use Rattle.fields.proofs.Le.{le-bytes}

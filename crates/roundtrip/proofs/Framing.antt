@@ -1,17 +1,10 @@
 -- The headers of a new book are read back: they pass the checks of a head, give the record that the inputs fix, and each chunk stands where
 -- the record says.
-use Prim.Native.Nat.{ℕ, _+_, _-_, _*_, _≤_, _<_, _^_}
-use native.Mathlib.Omega.{arith}
-use native.Mathlib.Decide.{ℕ-discrete}
-use mathlib.Core.Path.{_≡_, refl, sym, ap, _∙_}
-use mathlib.Core.Bool.{true}
-use mathlib.Core.List.{List, [], _∷_, _++_, flatten}
-use lib.ListN.{length, getD}
-use borrow.Author.Tests.{le-leb, eq-eqb, ne-eqb}
+use Rattle.fields.proofs.Base.{ℕ, _+_, _-_, _*_, _≤_, _<_, _^_, arith, ℕ-discrete, _≡_, refl, sym, ap, _∙_, true, List, [], _∷_, _++_, flatten, length, getD, le-leb, eq-eqb, ne-eqb}
 use Rattle.fields.specs.Le.{le}
 use Rattle.fields.proofs.Parts.{part-inside}
 use Rattle.entries.specs.declared.Kind.the-variants.{Listing, Index}
-use Rattle.chunk.specs.Chunk.{spacingOf}
+use Rattle.chunk_fields.specs.ChunkFields.{spacingOf}
 use Rattle.file_header.specs.FileHeader.{fileFieldsOf}
 use Rattle.file_header.specs.declared.FileFields.{FileFields}
 use Rattle.file_header.proofs.Checks.{file-good, section-good}

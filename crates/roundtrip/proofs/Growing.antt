@@ -1,19 +1,12 @@
 -- The tree of a new directory, level by level: what holds of a level's chunks holds of those of the level above, up to the level with a single
 -- chunk. A level is written `suc l`: listing chunks have level 1.
-use mathlib.Core.Path.{_≡_, refl, sym, ap, ap₂, subst, _∙_}
-use mathlib.Core.Logic.{inl, inr}
-use mathlib.Core.Bool.{true}
-use mathlib.Core.List.{List, [], _∷_, _++_, flatMap, flatten}
-use Prim.Native.Nat.{ℕ, zero, suc, _+_, _≤_, _<_}
-use native.Mathlib.Omega.{arith}
-use native.Mathlib.Decide.{decLe}
-use lib.ListN.{length, length-append}
-use lib.Dec.{ltb}
-use borrow.Author.Tests.{ltb-true, ltb-false}
+use Rattle.fields.proofs.Base.{_≡_, refl, sym, ap, ap₂, subst, _∙_, inl, inr, true, List, [], _∷_, _++_, flatMap, flatten, ℕ, zero, suc, _+_, _≤_, _<_, arith, decLe, length, length-append, ltb, ltb-true}
+use borrow.Author.Tests.{ltb-false}
 use Rattle.fields.specs.Same.{same}
 use Rattle.fields.proofs.Same.{same-self}
 use Rattle.entries.specs.declared.Kind.the-variants.{Index}
-use Rattle.chunk.specs.Chunk.{Parsed, entriesIn, firstPlace}
+use Rattle.chunk.specs.Chunk.{Parsed, entriesIn}
+use Rattle.chunk_fields.specs.ChunkFields.{firstPlace}
 use Rattle.tree.specs.Shape as shape
 use Rattle.tree.specs.Lists.{In, allOf}
 use Rattle.tree.specs.Shape.{Shape, isIndex, indexChunk}

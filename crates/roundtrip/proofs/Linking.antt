@@ -1,11 +1,5 @@
 -- A directory that means a new layout passes the checks of chain and tree, and its chain is its listing chunks in order.
-use Prim.Native.Nat.{ℕ, _+_, _-_, _≤_, _<_}
-use mathlib.Core.Path.{_≡_, refl, sym, ap, subst, _∙_}
-use mathlib.Core.Bool.{true, false}
-use mathlib.Core.List.{List, [], flatten}
-use native.Mathlib.Omega.{arith}
-use native.Mathlib.Decide.{decLe}
-use lib.ListN.{length, getD}
+use Rattle.fields.proofs.Base.{ℕ, _+_, _-_, _≤_, _<_, _≡_, refl, sym, ap, subst, _∙_, true, false, List, [], flatten, arith, decLe, length, getD}
 use Rattle.fields.proofs.Tests.{never}
 use Rattle.chunk.specs.Chunk.{Parsed}
 use Rattle.tree.specs.Shape.{isListing, isIndex}

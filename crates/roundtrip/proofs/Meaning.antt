@@ -1,8 +1,5 @@
 -- A directory that means a layout: what each chunk number stands for, and the numbers of chain and tree.
-use Prim.Native.Nat.{ℕ, _+_, _-_, _<_}
-use mathlib.Core.Path.{_≡_}
-use mathlib.Core.List.{[], flatten}
-use lib.ListN.{length, getD}
+use Rattle.fields.proofs.Base.{ℕ, _+_, _-_, _<_, _≡_, [], flatten, length, getD}
 use Rattle.entries.specs.declared.Kind.the-variants.{Listing, Index}
 use Rattle.chunk.specs.Chunk.{Parsed}
 use Rattle.tree.specs.Shape.{Shape}

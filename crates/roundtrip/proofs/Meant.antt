@@ -1,16 +1,9 @@
 -- A new book by its record: every chunk means the entries that its layout gives it.
-use mathlib.Core.Path.{_≡_, refl, ap, ap₂, _∙_}
-use mathlib.Core.Bool.{Bool, true, false}
-use mathlib.Core.List.{List, [], flatten}
-use Prim.Native.Nat.{ℕ, _+_, _-_, _^_, _≤_, _<_}
-use native.Mathlib.Omega.{arith}
-use native.Mathlib.Decide.{ℕ-discrete}
-use lib.ListN.{length, getD}
-use lib.Dec.{ltb}
-use borrow.Author.Tests.{ltb-true, eq-eqb, ne-eqb}
+use Rattle.fields.proofs.Base.{_≡_, refl, ap, ap₂, _∙_, Bool, true, false, List, [], flatten, ℕ, _+_, _-_, _^_, _≤_, _<_, arith, ℕ-discrete, length, getD, ltb, ltb-true, eq-eqb, ne-eqb}
 use Rattle.entries.specs.declared.Limits.{Limits}
 use Rattle.entries.specs.declared.Kind.the-variants.{Listing, Index}
-use Rattle.chunk.specs.Chunk.{parsed, spacingOf}
+use Rattle.chunk.specs.Chunk.{parsed}
+use Rattle.chunk_fields.specs.ChunkFields.{spacingOf}
 use Rattle.header.specs.Header.{headerOf}
 use Rattle.header.specs.declared.Record.{Record}
 use Rattle.header.specs.declared.CheckedHeader.the-variants.{Good}

@@ -1,15 +1,12 @@
 -- The names of a listing chunk's entries stand in the chunk, where the entries say.
-use mathlib.Core.Path.{_≡_, sym, ap, subst}
-use mathlib.Core.List.{List}
-use Prim.Native.Nat.{ℕ, zero, suc, _+_, _≤_}
-use native.Mathlib.Omega.{arith}
-use lib.ListN.{length}
+use Rattle.fields.proofs.Base.{_≡_, sym, ap, subst, List, ℕ, zero, suc, _+_, _≤_, arith, length}
 use Rattle.fields.specs.Part.{part}
 use Rattle.fields.proofs.Parts.{length-part}
 use Rattle.entries.specs.declared.Limits.{Limits}
 use Rattle.entries.specs.declared.Kind.the-variants.{Listing}
 use Rattle.entries.proofs.Laws.{item-inside}
-use Rattle.chunk.specs.Chunk.{Entry, all, entriesAt}
+use Rattle.entries.specs.Entry.{Entry}
+use Rattle.chunk.specs.Chunk.{all, entriesAt}
 use Rattle.chunk.proofs.Accepted.{entries-more, entries-none}
 use Rattle.fields.proofs.Lists.{All, none, more}
 

@@ -1,12 +1,5 @@
 -- Numbers in a row, and members of lists of numbers.
-use mathlib.Core.Path.{_≡_}
-use mathlib.Core.Logic.{inl, inr}
-use mathlib.Core.Bool.{Bool, true, not, _||_}
-use mathlib.Core.List.{List, [], _∷_}
-use Prim.Native.Nat.{ℕ, zero, suc, _+_, _≤_, _<_}
-use native.Mathlib.Omega.{arith}
-use lib.Dec.{eqb}
-use borrow.Author.Tests.{eqb-true, eqb-false, eq-eqb}
+use Rattle.fields.proofs.Base.{_≡_, inl, inr, Bool, true, not, _||_, List, [], _∷_, ℕ, zero, suc, _+_, _≤_, _<_, arith, eqb, eqb-true, eqb-false, eq-eqb}
 use Rattle.tree.specs.Lists.{In, member, everyBelow}
 use Rattle.tree.proofs.Lists.{onTest, implied-by, below-every}
 

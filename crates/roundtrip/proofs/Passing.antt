@@ -1,12 +1,5 @@
 -- Headers that hold the numbers of a new book pass the checks of a head.
-use mathlib.Core.Path.{_≡_, refl}
-use mathlib.Core.Bool.{true, cond, not, _&&_, _||_}
-use mathlib.Core.List.{List}
-use Prim.Native.Nat.{ℕ, _+_, _-_, _*_, _≤_, _<_}
-use native.Mathlib.Omega.{arith}
-use native.Mathlib.Decide.{ℕ-discrete}
-use lib.Dec.{ltb, eqb}
-use borrow.Author.Tests.{le-leb, lt-ltb, eq-eqb, ne-eqb}
+use Rattle.fields.proofs.Base.{_≡_, refl, true, cond, not, _&&_, _||_, List, ℕ, _+_, _-_, _*_, _≤_, _<_, arith, ℕ-discrete, ltb, eqb, le-leb, lt-ltb, eq-eqb, ne-eqb}
 use Rattle.refusals.specs.Refusals.{noChunk}
 use Rattle.file_header.specs.FileHeader.{versionRight, lengthsRight, placesRight, contentRight, sectionsRight}
 use Rattle.directory_header.specs.DirectoryHeader.{boundsRight, endsRight, rootRight, directoryRight, directoryFieldsOf}

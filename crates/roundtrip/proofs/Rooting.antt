@@ -1,16 +1,10 @@
 -- The tree of a new directory from its lowest level to its root: where the levels between stand, it passes its check.
-use mathlib.Core.Path.{_≡_, refl, sym, ap, subst, _∙_}
-use mathlib.Core.Bool.{true, not, _||_}
-use mathlib.Core.List.{List, [], _∷_, append-nil, flatMap}
-use Prim.Native.Nat.{ℕ, suc, _+_, _≤_, _<_}
-use native.Mathlib.Omega.{arith}
-use lib.ListN.{length}
-use lib.Dec.{eqb}
-use borrow.Author.Tests.{eqb-true}
+use Rattle.fields.proofs.Base.{_≡_, refl, sym, ap, subst, _∙_, true, not, _||_, List, [], _∷_, append-nil, flatMap, ℕ, suc, _+_, _≤_, _<_, arith, length, eqb, eqb-true}
 use Rattle.fields.specs.Same.{same}
 use Rattle.fields.proofs.Same.{same-self}
 use Rattle.entries.specs.declared.Kind.the-variants.{Listing}
-use Rattle.chunk.specs.Chunk.{Parsed, firstPlace}
+use Rattle.chunk.specs.Chunk.{Parsed}
+use Rattle.chunk_fields.specs.ChunkFields.{firstPlace}
 use Rattle.tree.specs.Lists.{In, member, everyBelow}
 use Rattle.tree.specs.Shape.{Shape, isListing, isIndex, listingChunk}
 use Rattle.tree.specs.Chain.{chain}

@@ -1,18 +1,15 @@
 -- The round trip (`round-trip`): the head of a layout over entries that are cut so that they fit, with content of that length behind it, is a book
 -- with the record that inputs and layout fix, and its listing is those entries.
-use mathlib.Core.Path.{_≡_, refl, sym, ap, ap₂, subst, _∙_}
-use mathlib.Core.Bool.{true}
-use mathlib.Core.List.{List, [], _∷_, _++_, map, map-append, flatten, flatMap}
-use Prim.Native.Nat.{ℕ, zero, suc, _+_, _-_, _^_, _<_}
-use native.Mathlib.Omega.{arith}
-use lib.ListN.{length, getD}
-use native.Mathlib.Decide.{decLe}
+use Rattle.fields.proofs.Base.{_≡_, refl, sym, ap, ap₂, subst, _∙_, true, List, [], _∷_, _++_, map, flatten, flatMap, ℕ, zero, suc, _+_, _-_, _^_, _<_, arith, length, getD, decLe}
+use mathlib.Core.List.{map-append}
 use Rattle.fields.specs.Part.{part}
 use Rattle.fields.proofs.Parts.{part-inside, part-within}
 use Rattle.fields.proofs.Tests.{never}
 use Rattle.encint.specs.Encint.{encoded}
 use Rattle.entries.specs.declared.Kind.the-variants.{Listing}
-use Rattle.chunk.specs.Chunk.{Entry, Parsed, bad, listing, index, isGood, isKind, entriesIn, spacingOf, firstPlace}
+use Rattle.entries.specs.Entry.{Entry}
+use Rattle.chunk.specs.Chunk.{Parsed, bad, listing, index, isGood, isKind, entriesIn}
+use Rattle.chunk_fields.specs.ChunkFields.{spacingOf, firstPlace}
 use Rattle.chunk.proofs.Accepted.{chunk-accepted}
 use Rattle.header.specs.declared.Record.{Record}
 use Rattle.book.specs.Book.{limitsOf, chunkPlace, chunkBytes, directoryOf}

@@ -1,10 +1,5 @@
 -- Chunks that stand one behind another in a directory, each for a list of entries, and the first and the last name of a chunk.
-use mathlib.Core.Path.{_≡_, refl, subst}
-use mathlib.Core.Bool.{true}
-use mathlib.Core.List.{List, [], _∷_, _++_}
-use Prim.Native.Nat.{ℕ, suc, _+_, _<_}
-use native.Mathlib.Omega.{arith}
-use lib.ListN.{length, getD}
+use Rattle.fields.proofs.Base.{_≡_, refl, subst, true, List, [], _∷_, _++_, ℕ, suc, _+_, _<_, arith, length, getD}
 use Rattle.names.specs.Names.{below}
 use Rattle.entries.specs.declared.Kind.{Kind}
 use Rattle.entries.specs.declared.Kind.the-variants.{Listing, Index}

@@ -1,9 +1,6 @@
 -- On a book that opening accepts, the search along the chain replies what lookup answers, for every name: `engines-agree`.
 -- And a refusal is 15 or 17, with no chunk: `scan-refusal`.
-use mathlib.Core.Path.{_≡_, sym, ap, _∙_}
-use mathlib.Core.Logic.{_⊎_}
-use mathlib.Core.List.{List}
-use Prim.Native.Nat.{ℕ, _≤_}
+use Rattle.fields.proofs.Base.{_≡_, sym, ap, _∙_, _⊎_, List, ℕ, _≤_}
 use Rattle.refusals.specs.Refusals.{refusalOf}
 use Rattle.refusals.specs.declared.Refusal.{Refusal}
 use Rattle.header.specs.declared.Record.{Record}

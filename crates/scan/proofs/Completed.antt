@@ -1,10 +1,6 @@
 -- Wherever the rules of the chain hold, the search along it finds exactly what listing chunks hold: `scan-complete`. So it does on every book that opening
 -- refuses for its index alone: `broken-index`.
-use mathlib.Core.Path.{_≡_, refl, sym}
-use mathlib.Core.Bool.{true, false≢true}
-use mathlib.Core.List.{List}
-use Prim.Native.Nat.{ℕ}
-use native.Mathlib.Omega.{arith}
+use Rattle.fields.proofs.Base.{_≡_, refl, sym, true, false≢true, List, ℕ, arith}
 use Rattle.refusals.specs.declared.Refusal.{Refusal}
 use Rattle.names.specs.Names.{askable}
 use Rattle.header.specs.Header.{headerOf}

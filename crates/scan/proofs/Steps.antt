@@ -1,7 +1,5 @@
 -- What the search in one chunk makes of the reply: a law for each way that a turn of the loop goes.
-use mathlib.Core.Path.{_≡_, sym, ap, _∙_}
-use mathlib.Core.List.{List}
-use Prim.Native.Nat.{ℕ, _-_, _≤_, _<_}
+use Rattle.fields.proofs.Base.{_≡_, sym, ap, _∙_, List, ℕ, _-_, _≤_, _<_}
 use Rattle.refusals.specs.Refusals.{noChunk, refusalOf}
 use Rattle.quickref.proofs.Steps.{some-left, none-left}
 use Rattle.header.specs.declared.Record.{Record}

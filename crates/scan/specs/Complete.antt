@@ -6,7 +6,7 @@ use mathlib.Core.List.{List}
 use Prim.Native.Nat.{ℕ}
 use Rattle.refusals.specs.declared.Refusal.{Refusal}
 use Rattle.names.specs.Names.{askable}
-use Rattle.chunk.specs.Chunk.{Entry}
+use Rattle.entries.specs.Entry.{Entry}
 use Rattle.header.specs.declared.Record.{Record}
 use Rattle.tree.specs.Chain.{chainOk}
 use Rattle.book.specs.Book.{directoryOf, shapeOf, recordFits}

@@ -1,22 +1,17 @@
 -- What a search over the bytes of a chunk finds: on any bytes a name that stands where it is reported to; in a chunk that passes its check what is
 -- sought among its entries. And what a search in one listing chunk tells.
-use mathlib.Core.Path.{_≡_, refl, sym, ap, ap₂, _∙_}
-use mathlib.Core.Bool.{Bool, true, false, cond}
-use mathlib.Core.List.{List}
-use Prim.Native.Nat.{ℕ, _+_, _<_}
-use native.Mathlib.Omega.{arith}
-use lib.ListN.{length, getD}
-use borrow.Author.Tests.{le-leb}
+use Rattle.fields.proofs.Base.{_≡_, refl, sym, ap, ap₂, _∙_, Bool, true, false, cond, List, ℕ, _+_, _<_, arith, length, getD, le-leb}
 use Rattle.fields.specs.Part.{part}
 use Rattle.fields.proofs.Le.{le-lt}
 use Rattle.fields.proofs.Parts.{part-inside, part-within}
 use Rattle.names.specs.Names.{compared, matches}
 use Rattle.names.specs.Order.{isEqual}
-use Rattle.entries.specs.Entry.{nameOf}
+use Rattle.entries.specs.Entry.{nameOf, Entry, entryOf}
 use Rattle.entries.specs.declared.Place.{Place}
 use Rattle.entries.specs.declared.Kind.{Kind}
 use Rattle.entries.specs.declared.Kind.the-variants.{Listing, Index}
-use Rattle.chunk.specs.Chunk.{Entry, entryOf, entriesIn, countPlace}
+use Rattle.chunk.specs.Chunk.{entriesIn}
+use Rattle.chunk_fields.specs.ChunkFields.{countPlace}
 use Rattle.quickref.specs.Quickref.{Sought, soughtOf}
 use Rattle.quickref.specs.declared.Hit.{Hit}
 use Rattle.quickref.specs.declared.Hit.the-variants.{At, Nothing}

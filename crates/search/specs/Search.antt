@@ -8,7 +8,8 @@ use lib.ListN.{length}
 use Rattle.fields.specs.Part.{part}
 use Rattle.names.specs.Names.{compared, matches}
 use Rattle.entries.specs.declared.Kind.the-variants.{Listing, Index}
-use Rattle.chunk.specs.Chunk.{spacingOf, entriesIn}
+use Rattle.chunk_fields.specs.ChunkFields.{spacingOf}
+use Rattle.chunk.specs.Chunk.{entriesIn}
 use Rattle.quickref.specs.Quickref.{Sought}
 use Rattle.quickref.specs.declared.Hit.{Hit}
 use Rattle.quickref.specs.declared.Hit.the-variants.{At}

@@ -3,9 +3,9 @@ ghost use mathlib.Core.Path.{_≡_};
 ghost use Rattle.search.specs.Search.{findingIn, childIn, searchIn};
 use chunk::Chunk;
 use header::Record;
+use quickref::Hit;
 use report::Report;
 use seek::CountedChild;
-use quickref::Hit;
 
 // What the search in the bytes of a chunk comes to; the number in front is how many comparisons of the asked name it made.
 pub enum Finding {

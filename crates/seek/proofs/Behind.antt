@@ -1,17 +1,11 @@
 -- What is sought among entries whose names rise: it stands from one that is not above the name on, and before one that is above it.
-use mathlib.Core.Path.{_≡_, refl, sym, ap, _∙_}
-use mathlib.Core.Logic.{_⊎_, inl, inr}
-use mathlib.Core.List.{List, [], _∷_}
-use mathlib.Core.Bool.{true, false, false≢true}
-use Prim.Native.Nat.{ℕ, zero, suc, _≤_, _<_}
-use native.Mathlib.Omega.{arith}
-use lib.ListN.{length, getD, take, drop}
+use Rattle.fields.proofs.Base.{_≡_, refl, sym, ap, _∙_, _⊎_, inl, inr, List, [], _∷_, true, false, false≢true, ℕ, zero, suc, _≤_, _<_, arith, length, getD, take, drop}
 use Rattle.names.specs.Order.{isLess}
 use Rattle.names.specs.Names.{compared, below, matches}
 use Rattle.names.specs.declared.Order.the-variants.{Greater}
 use Rattle.names.proofs.Laws.{notGreater, names-laws, isLess-true, below-less, not-less, less-notGreater, notGreater-less, flip-less}
 use Rattle.entries.specs.Rising.{rising}
-use Rattle.chunk.specs.Chunk.{Entry, entryName}
+use Rattle.entries.specs.Entry.{Entry, entryName}
 use Rattle.entries.proofs.Rising.{rising-more, rising-at}
 use Rattle.quickref.specs.Quickref.{Sought, absent, found}
 use Rattle.quickref.proofs.Groups.{other}

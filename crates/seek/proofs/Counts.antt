@@ -2,19 +2,13 @@
 --     cost-few     at most h + n, where 2 ^ h is the number of groups or more, and n entries are in a group
 --     cost-good    on a chunk that passes its check, as many over its bytes as among its entries
 --     cost-small   on any bytes, a number that fits 32 bits five times over
-use mathlib.Core.Path.{_≡_, refl, sym, ap, ap₂, _∙_}
-use mathlib.Core.List.{List, [], _∷_}
-use mathlib.Core.Bool.{true}
-use Prim.Native.Nat.{ℕ, zero, suc, _+_, _-_, _*_, _^_, _≤_, _<_, min}
-use native.Mathlib.Omega.{arith}
-use native.Mathlib.Nat.{div-le-self}
-use lib.ListN.{length, take, drop, length-drop}
+use Rattle.fields.proofs.Base.{_≡_, refl, sym, ap, ap₂, _∙_, List, [], _∷_, true, ℕ, zero, suc, _+_, _-_, _*_, _^_, _≤_, _<_, min, arith, div-le-self, length, take, drop, length-drop}
 use Rattle.fields.specs.Part.{part}
 use Rattle.names.specs.declared.Order.{Order}
 use Rattle.names.specs.declared.Order.the-variants.{Less, Equal, Greater}
 use Rattle.encint.specs.declared.Number.{Number}
 use Rattle.encint.specs.declared.Number.the-variants.{Value}
-use Rattle.entries.specs.Entry.{withNumber, itemAt, nameOf, withItem}
+use Rattle.entries.specs.Entry.{withNumber, itemAt, nameOf, withItem, Entry, entryOf}
 use Rattle.entries.specs.declared.Limits.{Limits}
 use Rattle.entries.specs.declared.Place.{Place}
 use Rattle.entries.specs.declared.Item.{Item}
@@ -22,7 +16,8 @@ use Rattle.entries.specs.declared.Item.the-variants.{Good, Bad}
 use Rattle.entries.proofs.Laws.{item-inside}
 use Rattle.entries.specs.declared.Kind.{Kind}
 use Rattle.entries.specs.declared.Kind.the-variants.{Listing, Index}
-use Rattle.chunk.specs.Chunk.{Entry, all, entryOf, entriesAt, entryCount, tailLength, spacingOf, quickCount, parsed, entriesIn, isKind}
+use Rattle.chunk.specs.Chunk.{all, entriesAt, parsed, entriesIn, isKind}
+use Rattle.chunk_fields.specs.ChunkFields.{entryCount, tailLength, spacingOf, quickCount}
 use Rattle.chunk.proofs.Accepted.{chunk-accepted, entries-more}
 use Rattle.quickref.specs.Quickref.{groupAt}
 use Rattle.quickref.proofs.Groups.{group-entries, entries-counted}

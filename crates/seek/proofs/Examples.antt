@@ -1,10 +1,8 @@
 -- Four entries in two groups of two: what each name costs, and that the bound h + n is reached.
-use mathlib.Core.Path.{_≡_, refl}
-use mathlib.Core.List.{List, [], _∷_}
-use Prim.Native.Nat.{ℕ}
+use Rattle.fields.proofs.Base.{_≡_, refl, List, [], _∷_, ℕ}
 use Rattle.names.specs.Order.{byNumber, byElement}
 use Rattle.names.specs.Names.{folded, compared}
-use Rattle.chunk.specs.Chunk.{Entry}
+use Rattle.entries.specs.Entry.{Entry}
 use Rattle.quickref.specs.Quickref.{nth}
 use Rattle.halving.specs.Halving.{halved}
 use Rattle.halving.specs.Halvings.{halvings}

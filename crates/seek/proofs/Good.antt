@@ -1,23 +1,19 @@
 -- On a chunk that passes its check, each search over its bytes is the search among its entries.
 --     find-good      the entry of a name
 --     choose-good    the entry to go down from
-use mathlib.Core.Path.{_≡_, refl, sym, ap, subst, _∙_}
-use mathlib.Core.List.{List, [], _∷_}
-use mathlib.Core.Bool.{true, cond}
-use Prim.Native.Nat.{ℕ, zero, suc, _-_, _*_, _≤_}
-use native.Mathlib.Omega.{arith}
-use lib.ListN.{take, drop}
+use Rattle.fields.proofs.Base.{_≡_, refl, sym, ap, subst, _∙_, List, [], _∷_, true, cond, ℕ, zero, suc, _-_, _*_, _≤_, arith, take, drop}
 use Rattle.names.specs.Order.{isLess, isEqual}
 use Rattle.names.proofs.Laws.{notGreater}
 use Rattle.names.specs.Names.{compared, below, matches}
 use Rattle.names.specs.declared.Order.{Order}
 use Rattle.names.specs.declared.Order.the-variants.{Less, Equal, Greater}
-use Rattle.entries.specs.Entry.{nameOf}
+use Rattle.entries.specs.Entry.{nameOf, Entry, entryOf, entryName}
 use Rattle.entries.specs.declared.Limits.{Limits}
 use Rattle.entries.specs.declared.Place.{Place}
 use Rattle.entries.specs.declared.Kind.the-variants.{Listing, Index}
 use Rattle.entries.specs.Rising.{rising}
-use Rattle.chunk.specs.Chunk.{Entry, all, entryOf, entriesAt, entryCount, tailLength, spacingOf, parsed, entriesIn, isKind, entryName}
+use Rattle.chunk.specs.Chunk.{all, entriesAt, parsed, entriesIn, isKind}
+use Rattle.chunk_fields.specs.ChunkFields.{entryCount, tailLength, spacingOf}
 use Rattle.entries.proofs.Rising.{rising-more, rising-take, rising-drop}
 use Rattle.chunk.proofs.Accepted.{chunk-accepted, entries-more}
 use Rattle.quickref.specs.Quickref.{absent, found, soughtOf, groupAt}

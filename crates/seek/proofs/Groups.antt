@@ -1,19 +1,12 @@
 -- In a chunk that passes its check, what a name leads to stands in the group that halving leaves for it.
 --     group-lookup, group-choice  what is sought among all entries is sought among those of that group
-use mathlib.Core.Path.{_≡_, sym, ap, subst, _∙_}
-use mathlib.Core.Logic.{inl, inr}
-use mathlib.Core.List.{List, []}
-use mathlib.Core.Bool.{true}
-use Prim.Native.Nat.{ℕ, _+_, _-_, _*_, _≤_, _<_}
-use native.Mathlib.Omega.{arith}
-use native.Mathlib.Decide.{decLt}
-use lib.ListN.{length, getD, take, drop, length-drop}
-use lib.Seq.{getD-drop}
+use Rattle.fields.proofs.Base.{_≡_, sym, ap, subst, _∙_, inl, inr, List, [], true, ℕ, _+_, _-_, _*_, _≤_, _<_, arith, decLt, length, getD, take, drop, length-drop, getD-drop}
 use Rattle.names.specs.Order.{isLess}
 use Rattle.names.specs.Names.{compared}
 use Rattle.entries.specs.declared.Limits.{Limits}
 use Rattle.entries.specs.declared.Kind.{Kind}
-use Rattle.chunk.specs.Chunk.{Entry, entryCount, spacingOf, quickCount, entryName}
+use Rattle.entries.specs.Entry.{Entry, entryName}
+use Rattle.chunk_fields.specs.ChunkFields.{entryCount, spacingOf, quickCount}
 use Rattle.chunk.proofs.Accepted.{Accepted}
 use Rattle.entries.proofs.Rising.{rising-drop}
 use Rattle.quickref.specs.Quickref.{absent}

@@ -1,9 +1,5 @@
 -- What one turn of a search over a chunk's bytes finds, with `left` entries left and the next at a place.
-use mathlib.Core.Path.{_≡_, refl, sym, ap, _∙_}
-use mathlib.Core.List.{List}
-use Prim.Native.Nat.{ℕ, zero, suc, _+_, _-_, _≤_, _<_}
-use native.Mathlib.Omega.{arith}
-use lib.ListN.{length}
+use Rattle.fields.proofs.Base.{_≡_, refl, sym, ap, _∙_, List, ℕ, zero, suc, _+_, _-_, _≤_, _<_, arith, length}
 use Rattle.names.specs.declared.Order.{Order}
 use Rattle.names.specs.declared.Order.the-variants.{Less, Equal, Greater}
 use Rattle.fields.specs.Part.{part}

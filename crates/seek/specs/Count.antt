@@ -6,11 +6,11 @@ use lib.ListN.{length, take, drop}
 use Rattle.fields.specs.Part.{part}
 use Rattle.encint.specs.declared.Number.{Number}
 use Rattle.encint.specs.declared.Number.the-variants.{Value, Bad}
-use Rattle.entries.specs.Entry.{withNumber, nameAt, itemAt, withItem}
+use Rattle.entries.specs.Entry.{withNumber, nameAt, itemAt, withItem, Entry}
 use Rattle.entries.specs.declared.Limits.{Limits}
 use Rattle.entries.specs.declared.Kind.{Kind}
 use Rattle.entries.specs.declared.Kind.the-variants.{Listing, Index}
-use Rattle.chunk.specs.Chunk.{Entry, quickCount}
+use Rattle.chunk_fields.specs.ChunkFields.{quickCount}
 use Rattle.quickref.specs.Quickref.{groupAt}
 use Rattle.halving.specs.Halving.{Stand, groupIn, sizeIn}
 use Rattle.halving.specs.Halvings.{halvings, aboveIn, groupOf, halvingsIn}

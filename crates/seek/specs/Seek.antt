@@ -6,10 +6,9 @@ use mathlib.Core.Bool.{cond}
 use Rattle.names.specs.Names.{below, matches}
 use Rattle.names.specs.declared.Order.{Order}
 use Rattle.names.specs.declared.Order.the-variants.{Less, Equal, Greater}
-use Rattle.entries.specs.Entry.{itemAt, nameOf, withItem}
+use Rattle.entries.specs.Entry.{itemAt, nameOf, withItem, Entry}
 use Rattle.entries.specs.declared.Limits.{Limits}
 use Rattle.entries.specs.declared.Kind.the-variants.{Listing, Index}
-use Rattle.chunk.specs.Chunk.{Entry}
 use Rattle.quickref.specs.Quickref.{Sought, absent, found, groupAt}
 use Rattle.quickref.specs.declared.Hit.{Hit}
 use Rattle.quickref.specs.declared.Hit.the-variants.{At, Nothing}

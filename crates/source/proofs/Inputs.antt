@@ -1,13 +1,6 @@
 -- A pass over the input, as a loop has it: the entries that are left, with the place of the next one and the name before it.
-use mathlib.Core.Path.{_≡_, refl}
-use mathlib.Core.List.{List, [], _∷_, map}
-use mathlib.Core.Bool.{Bool, true, false, _&&_}
-use Prim.Native.Nat.{ℕ, _-_, _<_}
-use native.Mathlib.Omega.{arith}
+use Rattle.fields.proofs.Base.{_≡_, refl, List, [], _∷_, map, Bool, true, false, _&&_, ℕ, _-_, _<_, arith, length, ltb, eqb, lt-ltb, le-ltb, ne-eqb}
 use native.Mathlib.Nat.{le-refl}
-use lib.ListN.{length}
-use lib.Dec.{ltb, eqb}
-use borrow.Author.Tests.{lt-ltb, le-ltb, ne-eqb}
 use Rattle.fields.proofs.Tests.{and-yes}
 use Rattle.names.specs.Names.{below}
 use Rattle.entries.specs.Entry.{listingAt, nameOf}

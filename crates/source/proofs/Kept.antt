@@ -1,11 +1,5 @@
 -- What every entry keeps that the writer is given (FORMAT E3 to E6).
-use mathlib.Core.Path.{_≡_}
-use mathlib.Core.List.{List}
-use mathlib.Core.Bool.{true, _||_}
-use Prim.Native.Nat.{ℕ, _+_, _^_, _≤_, _<_}
-use native.Mathlib.Omega.{arith}
-use lib.ListN.{length}
-use lib.Dec.{ltb, leb}
+use Rattle.fields.proofs.Base.{_≡_, List, true, _||_, ℕ, _+_, _^_, _≤_, _<_, arith, length, ltb, leb}
 use Rattle.fields.proofs.Parts.{length-part}
 use Rattle.encint.proofs.Reading.{encint-small}
 use Rattle.entries.specs.Entry.{listingAt}

@@ -1,11 +1,5 @@
 -- What is known of an entry that a step hands out (`row-of`), and the entries from a cursor on, one by one (`run-more`, `run-end`).
-use mathlib.Core.Path.{_≡_, refl, sym, subst}
-use mathlib.Core.List.{List, [], _∷_}
-use mathlib.Core.Bool.{true}
-use Prim.Native.Nat.{ℕ, zero, suc, _+_, _-_, _≤_, _<_}
-use native.Mathlib.Omega.{arith}
-use lib.ListN.{length, getD, take, drop}
-use lib.Dec.{ltb}
+use Rattle.fields.proofs.Base.{_≡_, refl, sym, subst, List, [], _∷_, true, ℕ, zero, suc, _+_, _-_, _≤_, _<_, arith, length, getD, take, drop, ltb}
 use Rattle.encint.specs.declared.Number.the-variants.{Value}
 use Rattle.entries.specs.Entry.{nameAt}
 use Rattle.entries.specs.declared.Place.{Place}

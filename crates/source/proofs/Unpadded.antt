@@ -1,12 +1,5 @@
 -- An input that the writer takes is what is written for its entries, one directly behind another.
-use mathlib.Core.Path.{_≡_, ap, _∙_}
-use mathlib.Core.Bool.{true, _&&_}
-use mathlib.Core.List.{List, [], _++_, map, flatMap}
-use Prim.Native.Nat.{ℕ, zero, suc, _≤_, _<_}
-use native.Mathlib.Omega.{arith}
-use lib.Dec.{ltb, eqb}
-use lib.ListN.{length, getD, drop, drop-of-length-le}
-use borrow.Author.Tests.{eqb-true}
+use Rattle.fields.proofs.Base.{_≡_, ap, _∙_, true, _&&_, List, [], _++_, map, flatMap, ℕ, zero, suc, _≤_, _<_, arith, ltb, eqb, length, getD, drop, drop-of-length-le, eqb-true}
 use Rattle.fields.proofs.Tests.{and-both}
 use Rattle.entries.specs.Entry.{listingAt}
 use Rattle.entries.proofs.Laws.{onItem}

@@ -1,9 +1,6 @@
 -- Names that compare equal stand alike to others. This is the only place above the search in a chunk where the tests of names are opened, and of the
 -- order only its laws are used.
-use mathlib.Core.Path.{_≡_, ap}
-use mathlib.Core.Bool.{true, false}
-use mathlib.Core.List.{List}
-use Prim.Native.Nat.{ℕ}
+use Rattle.fields.proofs.Base.{_≡_, ap, true, false, List, ℕ}
 use Rattle.names.specs.Order.{isLess, isEqual}
 use Rattle.names.specs.Names.{compared, below, matches}
 use Rattle.names.specs.declared.Order.the-variants.{Greater}

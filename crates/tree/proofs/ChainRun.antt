@@ -1,11 +1,6 @@
 -- The run along the chain that counts listing chunks down accepts exactly the chains that are accepted: `chain-run`.
-use mathlib.Core.Path.{_≡_, refl, sym, _∙_}
-use mathlib.Core.Bool.{true, not, _&&_, _||_}
-use Prim.Native.Nat.{ℕ, zero, suc, _≤_}
-use native.Mathlib.Omega.{arith}
-use lib.Dec.{eqb, eqb·suc-suc}
-use lib.ListN.{length}
-use borrow.Author.Tests.{eqb-true}
+use Rattle.fields.proofs.Base.{_≡_, refl, sym, _∙_, true, not, _&&_, _||_, ℕ, zero, suc, _≤_, arith, eqb, length, eqb-true}
+use lib.Dec.{eqb·suc-suc}
 use Rattle.fields.proofs.Tests.{and-both, eqb-flip}
 use Rattle.refusals.specs.Refusals.{noChunk}
 use Rattle.names.specs.Names.{below}

@@ -1,11 +1,8 @@
 -- Chunks below the count: their kind, and that each has a first entry.
-use mathlib.Core.Path.{_≡_, refl}
-use mathlib.Core.Bool.{true, false, not}
-use mathlib.Core.List.{List, _∷_}
-use Prim.Native.Nat.{ℕ, _+_, _<_, _≤_}
-use borrow.Author.Tests.{ltb-true, lt-ltb, le-ltb}
+use Rattle.fields.proofs.Base.{_≡_, refl, true, false, not, List, _∷_, ℕ, _+_, _<_, _≤_, ltb-true, lt-ltb, le-ltb}
 use Rattle.fields.proofs.Tests.{never, and-both}
-use Rattle.chunk.specs.Chunk.{Entry, Parsed, bad, listing, index, entriesIn, isGood}
+use Rattle.entries.specs.Entry.{Entry}
+use Rattle.chunk.specs.Chunk.{Parsed, bad, listing, index, entriesIn, isGood}
 use Rattle.tree.specs.Shape.{Shape, isListing, isIndex, listingChunk, indexChunk, GoodChunks}
 use Rattle.tree.specs.Walk.{listings, indexes}
 use Rattle.tree.proofs.Lists.{first-of}

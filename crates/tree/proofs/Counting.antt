@@ -1,13 +1,5 @@
 -- Counting the numbers below n that pass a test: a list without repetition of such numbers has all of them exactly if it is as long as they are many.
-use mathlib.Core.Path.{_≡_, refl, sym, ap, _∙_}
-use mathlib.Core.Logic.{_≢_, inl, inr}
-use mathlib.Core.Bool.{Bool, true, false, not, _||_}
-use mathlib.Core.List.{List, [], _∷_}
-use Prim.Native.Nat.{ℕ, zero, suc, _+_, _<_, _≤_}
-use native.Mathlib.Omega.{arith}
-use lib.Dec.{eqb}
-use lib.ListN.{length}
-use borrow.Author.Tests.{eqb-true, eq-eqb, ne-eqb, eqb-false}
+use Rattle.fields.proofs.Base.{_≡_, refl, sym, ap, _∙_, _≢_, inl, inr, Bool, true, false, not, _||_, List, [], _∷_, ℕ, zero, suc, _+_, _<_, _≤_, arith, eqb, length, eqb-true, eq-eqb, ne-eqb, eqb-false}
 use Rattle.fields.proofs.Tests.{never}
 use Rattle.tree.specs.Lists.{In, Distinct, member, everyBelow}
 use Rattle.tree.specs.Walk.{countBelow}

@@ -1,10 +1,5 @@
 -- At depth 1, where the header allows one chunk only (FORMAT D16), an accepted chain is a whole tree: no book is refused for its tree there.
-use mathlib.Core.Path.{_≡_, subst}
-use mathlib.Core.Bool.{true, false, not, _||_}
-use mathlib.Core.List.{[], _∷_}
-use Prim.Native.Nat.{ℕ, _<_}
-use native.Mathlib.Omega.{arith}
-use lib.Dec.{eqb}
+use Rattle.fields.proofs.Base.{_≡_, subst, true, false, not, _||_, [], _∷_, ℕ, _<_, arith, eqb}
 use Rattle.fields.specs.Same.{same}
 use Rattle.fields.proofs.Same.{same-self}
 use Rattle.refusals.specs.Refusals.{noChunk}

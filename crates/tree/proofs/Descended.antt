@@ -1,15 +1,10 @@
 -- The descent in a shaped tree whose entries rise: it ends at the chunk that holds the name, and goes through as many chunks as the level says.
 -- A level is written `suc l`.
-use mathlib.Core.Path.{_≡_, refl, ap, subst}
-use mathlib.Core.Logic.{_⊎_, inl, inr}
-use mathlib.Core.Bool.{Bool, true, false, cond}
-use mathlib.Core.List.{List, [], _∷_, _++_, flatMap}
-use Prim.Native.Nat.{ℕ, zero, suc, _<_, _≤_}
-use native.Mathlib.Omega.{arith}
-use lib.ListN.{length}
+use Rattle.fields.proofs.Base.{_≡_, refl, ap, subst, _⊎_, inl, inr, Bool, true, false, cond, List, [], _∷_, _++_, flatMap, ℕ, zero, suc, _<_, _≤_, arith, length}
 use Rattle.names.specs.Names.{below, matches}
 use Rattle.names.proofs.Laws.{below-trans}
-use Rattle.chunk.specs.Chunk.{Entry, Parsed, entriesIn}
+use Rattle.entries.specs.Entry.{Entry}
+use Rattle.chunk.specs.Chunk.{Parsed, entriesIn}
 use Rattle.quickref.specs.Quickref.{Sought, nth}
 use Rattle.seek.specs.Seek.{entryNamed, choice}
 use Rattle.tree.specs.Lists.{In, Each, allOf}

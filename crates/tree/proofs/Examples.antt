@@ -1,16 +1,12 @@
 -- A small directory, and some with one slip each: what the checks and the descent come to.
-use mathlib.Core.Path.{_≡_, refl}
-use mathlib.Core.Bool.{true, false}
-use mathlib.Core.List.{List, [], _∷_, flatMap}
-use Prim.Native.Nat.{ℕ, zero, suc, _<_}
-use native.Mathlib.Omega.{arith}
-use lib.ListN.{length, getD}
+use Rattle.fields.proofs.Base.{_≡_, refl, true, false, List, [], _∷_, flatMap, ℕ, zero, suc, _<_, arith, length, getD}
 use Rattle.fields.specs.Same.{same}
 use Rattle.refusals.specs.Refusals.{noChunk}
 use Rattle.names.specs.Order.{byNumber, byElement}
 use Rattle.names.specs.Names.{folded, compared, below, matches}
 use Rattle.entries.specs.Rising.{rising}
-use Rattle.chunk.specs.Chunk.{Entry, Parsed, bad, listing, index, entriesIn, entryName, isGood}
+use Rattle.entries.specs.Entry.{Entry, entryName}
+use Rattle.chunk.specs.Chunk.{Parsed, bad, listing, index, entriesIn, isGood}
 use Rattle.quickref.specs.Quickref.{nth, final}
 use Rattle.seek.specs.Seek.{entryNamed, choice}
 use Rattle.tree.specs.Shape.{Shape, listingChunk, indexChunk, GoodChunks}

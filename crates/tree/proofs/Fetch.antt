@@ -1,9 +1,5 @@
 -- In a shaped tree the descent that checks no chunk comes to what the descent comes to: `fetch-shaped`.
-use mathlib.Core.Path.{_≡_, refl}
-use mathlib.Core.Logic.{inl, inr}
-use mathlib.Core.Bool.{true}
-use mathlib.Core.List.{List}
-use Prim.Native.Nat.{ℕ, zero, suc}
+use Rattle.fields.proofs.Base.{_≡_, refl, inl, inr, true, List, ℕ, zero, suc}
 use Rattle.names.specs.Names.{compared}
 use Rattle.entries.specs.declared.Limits.{Limits}
 use Rattle.chunk.specs.Chunk.{Parsed, parsed, entriesIn}

@@ -1,20 +1,13 @@
 -- A chain that is linked: its chunks are listing chunks, none stands on it twice, the names of its entries rise; how many chunks it may have is no limit.
 -- Of the chunks it asks only that listing chunks are filled.
-use mathlib.Core.Path.{_≡_, refl, sym, _∙_}
-use mathlib.Core.Logic.{_↔_, inl, inr}
-use mathlib.Core.Bool.{true, false, cond, not, _&&_, _||_}
-use mathlib.Core.List.{List, [], _∷_, _++_, flatMap}
-use Prim.Native.Nat.{ℕ, zero, suc, _<_, _≤_}
-use native.Mathlib.Omega.{arith}
-use lib.Dec.{eqb}
-use lib.ListN.{length}
-use borrow.Author.Tests.{eqb-true, eq-eqb}
+use Rattle.fields.proofs.Base.{_≡_, refl, sym, _∙_, _↔_, inl, inr, true, false, cond, not, _&&_, _||_, List, [], _∷_, _++_, flatMap, ℕ, zero, suc, _<_, _≤_, arith, eqb, length, eqb-true, eq-eqb}
 use Rattle.fields.proofs.Tests.{never, and-both}
 use Rattle.refusals.specs.Refusals.{noChunk}
 use Rattle.names.specs.Names.{below}
 use Rattle.names.proofs.Laws.{below-self}
 use Rattle.entries.specs.Rising.{rising}
-use Rattle.chunk.specs.Chunk.{Entry, Parsed, entriesIn, entryName}
+use Rattle.entries.specs.Entry.{Entry, entryName}
+use Rattle.chunk.specs.Chunk.{Parsed, entriesIn}
 use Rattle.quickref.specs.Quickref.{nth}
 use Rattle.tree.specs.Lists.{In, Each, Distinct, member, everyBelow}
 use Rattle.tree.specs.Shape.{Shape, isListing, previousOf, nextOf, firstName, lastName, listingChunk, GoodChunks}

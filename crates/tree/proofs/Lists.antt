@@ -1,13 +1,5 @@
 -- Laws of the tests and lists that chain, tree and descent share: members, lists put together, pairs of a list.
-use mathlib.Core.Path.{_≡_, refl, sym, ap, _∙_}
-use mathlib.Core.Logic.{_⊎_, inl, inr, ⊎-elim}
-use mathlib.Core.Bool.{Bool, true, false, not, _||_}
-use mathlib.Core.List.{List, [], _∷_, _++_, map, flatMap}
-use Prim.Native.Nat.{ℕ, zero, suc, _<_}
-use native.Mathlib.Omega.{arith}
-use lib.Dec.{eqb}
-use lib.ListN.{length}
-use borrow.Author.Tests.{eqb-true, eqb-false}
+use Rattle.fields.proofs.Base.{_≡_, refl, sym, ap, _∙_, _⊎_, inl, inr, ⊎-elim, Bool, true, false, not, _||_, List, [], _∷_, _++_, map, flatMap, ℕ, zero, suc, _<_, arith, eqb, length, eqb-true, eqb-false}
 use Rattle.fields.proofs.Tests.{never, and-both}
 use Rattle.fields.proofs.Lists.{flat-append}
 use Rattle.tree.specs.Lists.{In, Each, allOf, member, everyBelow}

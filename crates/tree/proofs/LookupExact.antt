@@ -1,16 +1,12 @@
 -- Demand 3, whole: on a directory that opening accepts, the descent finds what a listing chunk holds and nothing else, and goes through
 -- one chunk or as many as the depth says.
 --     demand-3    for every name
-use mathlib.Core.Path.{_≡_, refl, sym, ap, _∙_, subst}
-use mathlib.Core.Logic.{inl, inr}
-use mathlib.Core.Bool.{true, false≢true}
-use mathlib.Core.List.{List, [], _∷_, _++_, flatMap}
-use Prim.Native.Nat.{ℕ, zero, suc}
-use lib.ListN.{length}
+use Rattle.fields.proofs.Base.{_≡_, refl, sym, ap, _∙_, subst, inl, inr, true, false≢true, List, [], _∷_, _++_, flatMap, ℕ, zero, suc, length}
 use Rattle.fields.proofs.Same.{same-true}
 use Rattle.fields.proofs.Tests.{never, and-both}
 use Rattle.refusals.specs.Refusals.{noChunk}
-use Rattle.chunk.specs.Chunk.{Entry, Parsed}
+use Rattle.entries.specs.Entry.{Entry}
+use Rattle.chunk.specs.Chunk.{Parsed}
 use Rattle.quickref.specs.Quickref.{nth}
 use Rattle.tree.specs.Lists.{Each}
 use Rattle.tree.specs.Shape.{Shape, firstName}

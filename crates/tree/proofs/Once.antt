@@ -1,12 +1,8 @@
 -- In a shaped tree whose leaves are distinct no index chunk stands twice: it has one level, so a second place of it would have its leaves twice.
 -- A level is written `suc l`.
-use mathlib.Core.Path.{_≡_, refl, ap, subst}
-use mathlib.Core.Logic.{_≢_, inl, inr}
-use mathlib.Core.Bool.{true}
-use mathlib.Core.List.{List, [], _∷_, flatMap}
-use Prim.Native.Nat.{ℕ, zero, suc, _<_}
-use native.Mathlib.Omega.{arith}
-use Rattle.chunk.specs.Chunk.{Entry, Parsed, entriesIn}
+use Rattle.fields.proofs.Base.{_≡_, refl, ap, subst, _≢_, inl, inr, true, List, [], _∷_, flatMap, ℕ, zero, suc, _<_, arith}
+use Rattle.entries.specs.Entry.{Entry}
+use Rattle.chunk.specs.Chunk.{Parsed, entriesIn}
 use Rattle.tree.specs.Lists.{In, Distinct, allOf}
 use Rattle.tree.specs.Shape.{Shape, isIndex, GoodChunks}
 use Rattle.tree.specs.Tree.{leaves, indexChunks, shaped}

@@ -1,16 +1,13 @@
 -- Chunks that pass their own check are what chain and tree ask of chunks: `good-chunks`.
-use mathlib.Core.Path.{_≡_, refl}
-use mathlib.Core.Bool.{true}
-use mathlib.Core.List.{List, []}
-use Prim.Native.Nat.{ℕ, _-_, _<_}
-use native.Mathlib.Omega.{arith}
-use lib.ListN.{length}
+use Rattle.fields.proofs.Base.{_≡_, refl, true, List, [], ℕ, _-_, _<_, arith, length}
 use Rattle.fields.proofs.Tests.{never}
 use Rattle.entries.specs.declared.Limits.{Limits}
 use Rattle.entries.specs.declared.Kind.{Kind}
 use Rattle.entries.specs.declared.Kind.the-variants.{Listing, Index}
 use Rattle.entries.specs.Rising.{rising}
-use Rattle.chunk.specs.Chunk.{Parsed, bad, listing, index, firstPlace, entryCount, tailLength, parsed, entriesIn, isKind, entryName, isGood}
+use Rattle.chunk.specs.Chunk.{Parsed, bad, listing, index, parsed, entriesIn, isKind, isGood}
+use Rattle.entries.specs.Entry.{entryName}
+use Rattle.chunk_fields.specs.ChunkFields.{firstPlace, entryCount, tailLength}
 use Rattle.chunk.proofs.Accepted.{chunk-accepted, entries-count}
 use Rattle.tree.specs.Shape.{Shape, GoodChunks}
 

@@ -1,13 +1,10 @@
 -- The plain search chunk by chunk, on any directory: what one listing chunk makes of the search from there on.
-use mathlib.Core.Path.{_≡_, refl, ap}
-use mathlib.Core.Bool.{Bool, true, false}
-use mathlib.Core.List.{List, [], _∷_, _++_, map}
-use Prim.Native.Nat.{ℕ, suc}
-use borrow.Author.Tests.{eq-eqb, ne-eqb}
+use Rattle.fields.proofs.Base.{_≡_, refl, ap, Bool, true, false, List, [], _∷_, _++_, map, ℕ, suc, eq-eqb, ne-eqb}
 use Rattle.fields.proofs.Tests.{never}
 use Rattle.refusals.specs.Refusals.{noChunk}
 use Rattle.names.specs.Names.{matches}
-use Rattle.chunk.specs.Chunk.{Entry, Parsed, entriesIn}
+use Rattle.entries.specs.Entry.{Entry}
+use Rattle.chunk.specs.Chunk.{Parsed, entriesIn}
 use Rattle.quickref.specs.Quickref.{Sought}
 use Rattle.seek.specs.Seek.{entryNamed}
 use Rattle.tree.specs.Shape.{Shape, nextOf, listingChunk}

@@ -1,18 +1,12 @@
 -- What is read along a chain that passes: all entries of the directory's listing chunks, to the end (`reading-good`). So the plain search finds what they hold,
 -- whatever the index chunks are (`plain-exact`), and on a directory that opening accepts what the descent finds (`plain-same`).
-use mathlib.Core.Path.{_≡_, refl, sym, ap, _∙_}
-use mathlib.Core.Logic.{_⊎_, inl, inr, ⊎-elim}
-use mathlib.Core.Bool.{Bool, true, cond, false≢true}
-use mathlib.Core.List.{List, [], _∷_, _++_, map, flatMap}
-use Prim.Native.Nat.{ℕ, zero, suc, _+_, _*_, _≤_}
-use native.Mathlib.Omega.{arith}
+use Rattle.fields.proofs.Base.{_≡_, refl, sym, ap, _∙_, _⊎_, inl, inr, ⊎-elim, Bool, true, cond, false≢true, List, [], _∷_, _++_, map, flatMap, ℕ, zero, suc, _+_, _*_, _≤_, arith, eqb, length, length-append}
 use native.Mathlib.Nat.{mul-suc}
-use lib.Dec.{eqb}
-use lib.ListN.{length, length-append}
 use Rattle.fields.proofs.Tests.{never}
 use Rattle.refusals.specs.Refusals.{noChunk}
 use Rattle.names.specs.Names.{matches}
-use Rattle.chunk.specs.Chunk.{Entry, Parsed, entriesIn}
+use Rattle.entries.specs.Entry.{Entry}
+use Rattle.chunk.specs.Chunk.{Parsed, entriesIn}
 use Rattle.tree.specs.Lists.{In}
 use Rattle.tree.specs.Shape.{Shape, nextOf}
 use Rattle.tree.specs.Chain.{chainFrom, chain, linked, chainOk, entriesOf}

@@ -1,14 +1,10 @@
 -- Entries whose names rise: what `rising` says of any two of them, how lists of them are put together, and what the searches find among them.
-use mathlib.Core.Path.{_≡_, refl}
-use mathlib.Core.Logic.{_⊎_, inl, inr, ⊎-elim}
-use mathlib.Core.Bool.{true, false}
-use mathlib.Core.List.{List, [], _∷_, _++_}
-use Prim.Native.Nat.{ℕ}
+use Rattle.fields.proofs.Base.{_≡_, refl, _⊎_, inl, inr, ⊎-elim, true, false, List, [], _∷_, _++_, ℕ}
 use Rattle.fields.proofs.Tests.{never}
 use Rattle.names.specs.Names.{below, matches}
 use Rattle.names.proofs.Laws.{below-trans}
 use Rattle.entries.specs.Rising.{rising}
-use Rattle.chunk.specs.Chunk.{Entry, entryName}
+use Rattle.entries.specs.Entry.{Entry, entryName}
 use Rattle.entries.proofs.Rising.{rising-more}
 use Rattle.quickref.specs.Quickref.{Sought, absent, found, nth, nameIn, final}
 use Rattle.seek.specs.Seek.{entryNamed, choice}

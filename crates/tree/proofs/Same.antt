@@ -1,9 +1,5 @@
 -- Two directories that agree in the chunks of a descent have the same descent: `same-descent`.
-use mathlib.Core.Path.{_≡_, refl, ap}
-use mathlib.Core.Logic.{inl, inr}
-use mathlib.Core.Bool.{Bool, true, false, cond}
-use mathlib.Core.List.{List, [], _∷_}
-use Prim.Native.Nat.{ℕ, zero, suc}
+use Rattle.fields.proofs.Base.{_≡_, refl, ap, inl, inr, Bool, true, false, cond, List, [], _∷_, ℕ, zero, suc}
 use Rattle.chunk.specs.Chunk.{Parsed}
 use Rattle.quickref.specs.Quickref.{Sought}
 use Rattle.tree.specs.Lists.{In}

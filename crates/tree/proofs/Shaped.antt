@@ -1,14 +1,11 @@
 -- A tree that is shaped: its chunks are below the count, its children are shaped, and its first name is that of the first entry under it.
 -- A level is written `suc l`: no chunk has level 0.
-use mathlib.Core.Path.{_≡_, refl, ap, _∙_}
-use mathlib.Core.Logic.{inl, inr}
-use mathlib.Core.Bool.{Bool, true, _&&_}
-use mathlib.Core.List.{List, [], _∷_, _++_, flatMap}
-use Prim.Native.Nat.{ℕ, zero, suc, _<_}
+use Rattle.fields.proofs.Base.{_≡_, refl, ap, _∙_, inl, inr, Bool, true, _&&_, List, [], _∷_, _++_, flatMap, ℕ, zero, suc, _<_}
 use Rattle.fields.specs.Same.{same}
 use Rattle.fields.proofs.Same.{same-true}
 use Rattle.fields.proofs.Tests.{and-both}
-use Rattle.chunk.specs.Chunk.{Entry, Parsed, entriesIn}
+use Rattle.entries.specs.Entry.{Entry}
+use Rattle.chunk.specs.Chunk.{Parsed, entriesIn}
 use Rattle.quickref.specs.Quickref.{nth}
 use Rattle.tree.specs.Lists.{In, allOf}
 use Rattle.tree.specs.Shape.{Shape, isListing, firstName, listingChunk, indexChunk, GoodChunks}

@@ -1,13 +1,6 @@
 -- Chain, walk and descent one step at a time, in the terms that code has at hand: a return or a turn of a loop has its equation here.
 -- Levels and counts are plain numbers.
-use mathlib.Core.Path.{_≡_, refl, ap}
-use mathlib.Core.Bool.{true, false}
-use mathlib.Core.List.{List}
-use Prim.Native.Nat.{ℕ, zero, suc, _-_, _<_}
-use native.Mathlib.Omega.{arith}
-use native.Mathlib.Numerals.{sub-one}
-use lib.Dec.{eqb}
-use borrow.Author.Tests.{eq-eqb, ne-eqb}
+use Rattle.fields.proofs.Base.{_≡_, refl, ap, true, false, List, ℕ, zero, suc, _-_, _<_, arith, sub-one, eqb, eq-eqb, ne-eqb}
 use Rattle.chunk.specs.Chunk.{Parsed, entriesIn}
 use Rattle.quickref.specs.Quickref.{soughtOf}
 use Rattle.quickref.specs.declared.Hit.{Hit}

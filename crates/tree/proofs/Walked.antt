@@ -1,20 +1,14 @@
 -- The walk over the tree, whose leaves must come along the chain while index chunks are counted down, accepts exactly the trees that are accepted:
 -- `tree-walk`. A level is written `suc l`.
-use mathlib.Core.Path.{_≡_, refl, sym, ap, _∙_, subst}
-use mathlib.Core.Logic.{inl, inr}
-use mathlib.Core.Bool.{Bool, true, false, cond, not, _&&_, _||_, false≢true}
+use Rattle.fields.proofs.Base.{_≡_, refl, sym, ap, _∙_, subst, inl, inr, Bool, true, false, cond, not, _&&_, _||_, false≢true, List, [], _∷_, _++_, flatMap, ℕ, zero, suc, _<_, _≤_, arith, eqb, length, eqb-true, eq-eqb}
 use mathlib.Core.Option.{Option, none, some, Option·some-injective}
-use mathlib.Core.List.{List, [], _∷_, _++_, flatMap}
-use Prim.Native.Nat.{ℕ, zero, suc, _<_, _≤_}
-use native.Mathlib.Omega.{arith}
-use lib.Dec.{eqb, eqb·zero-suc, eqb·suc-zero, eqb·suc-suc}
-use lib.ListN.{length}
-use borrow.Author.Tests.{eqb-true, eq-eqb}
+use lib.Dec.{eqb·zero-suc, eqb·suc-zero, eqb·suc-suc}
 use Rattle.fields.specs.Same.{same}
 use Rattle.fields.proofs.Same.{same-true, same-self}
 use Rattle.fields.proofs.Tests.{never}
 use Rattle.refusals.specs.Refusals.{noChunk}
-use Rattle.chunk.specs.Chunk.{Entry, Parsed, entriesIn}
+use Rattle.entries.specs.Entry.{Entry}
+use Rattle.chunk.specs.Chunk.{Parsed, entriesIn}
 use Rattle.tree.specs.Lists.{In, Distinct, allOf, member, everyBelow}
 use Rattle.tree.specs.Shape.{Shape, isIndex, nextOf, firstName, listingChunk, indexChunk, GoodChunks}
 use Rattle.tree.specs.Chain.{chainFrom, chain, linked, chainOk}

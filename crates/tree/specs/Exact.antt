@@ -7,7 +7,8 @@ use Prim.Native.Nat.{ℕ, _<_}
 use lib.ListN.{length}
 use Rattle.names.specs.Names.{below, matches}
 use Rattle.entries.specs.Rising.{rising}
-use Rattle.chunk.specs.Chunk.{Entry, Parsed, entriesIn, entryName}
+use Rattle.entries.specs.Entry.{Entry, entryName}
+use Rattle.chunk.specs.Chunk.{Parsed, entriesIn}
 use Rattle.tree.specs.Lists.{In, Distinct}
 use Rattle.tree.specs.Shape.{Shape, isListing, firstName, GoodChunks}
 use Rattle.tree.specs.Chain.{chain, chainEntries, chainOk}

@@ -6,7 +6,8 @@ use Prim.Native.Nat.{ℕ, zero, suc}
 use lib.Dec.{eqb}
 use Rattle.refusals.specs.Refusals.{noChunk}
 use Rattle.names.specs.Names.{matches}
-use Rattle.chunk.specs.Chunk.{Entry, Parsed, entriesIn}
+use Rattle.entries.specs.Entry.{Entry}
+use Rattle.chunk.specs.Chunk.{Parsed, entriesIn}
 use Rattle.tree.specs.Shape.{Shape, nextOf, listingChunk}
 use Rattle.tree.specs.Descent.{Outcome, found, absent, refused}
 

@@ -8,7 +8,8 @@ use lib.ListN.{length}
 use Rattle.entries.specs.declared.Kind.the-variants.{Listing, Index}
 use Rattle.entries.specs.Rising.{rising}
 use Rattle.refusals.specs.Refusals.{noChunk}
-use Rattle.chunk.specs.Chunk.{Parsed, bad, listing, index, entriesIn, isKind, entryName, isGood}
+use Rattle.chunk.specs.Chunk.{Parsed, bad, listing, index, entriesIn, isKind, isGood}
+use Rattle.entries.specs.Entry.{entryName}
 use Rattle.quickref.specs.Quickref.{absent, nth, nameIn, final}
 
 -- ---- the header's numbers (FORMAT D8 to D11)

@@ -8,7 +8,8 @@ use lib.Dec.{eqb}
 use Rattle.fields.specs.Same.{same}
 use Rattle.refusals.specs.Refusals.{noChunk}
 use Rattle.names.specs.Names.{below}
-use Rattle.chunk.specs.Chunk.{Entry, Parsed, entriesIn}
+use Rattle.entries.specs.Entry.{Entry}
+use Rattle.chunk.specs.Chunk.{Parsed, entriesIn}
 use Rattle.tree.specs.Shape.{Shape, isListing, isIndex, previousOf, nextOf, firstName, lastName, listingChunk, indexChunk}
 use Rattle.tree.specs.Tree.{top}
 use Rattle.tree.specs.Descent.{Outcome}

@@ -1,10 +1,5 @@
 -- What comes next at a walk, by its cases: one law for each.
-use mathlib.Core.Path.{_≡_, _∙_}
-use mathlib.Core.Bool.{true, false}
-use mathlib.Core.List.{List}
-use Prim.Native.Nat.{ℕ, _-_, _≤_, _<_}
-use lib.Dec.{ltb}
-use borrow.Author.Tests.{lt-ltb, le-ltb}
+use Rattle.fields.proofs.Base.{_≡_, _∙_, true, false, List, ℕ, _-_, _≤_, _<_, ltb, lt-ltb, le-ltb}
 use Rattle.fields.proofs.Tests.{and-no}
 use Rattle.refusals.specs.Refusals.{refusalOf}
 use Rattle.entries.specs.Entry.{itemAt}

@@ -1,11 +1,5 @@
 -- A walk ends: behind an entry that comes next it has fewer entries to come to than before.
-use mathlib.Core.Path.{_≡_, refl, subst}
-use mathlib.Core.Bool.{_&&_}
-use mathlib.Core.List.{List}
-use Prim.Native.Nat.{ℕ, _-_, _≤_, _<_}
-use native.Mathlib.Omega.{arith}
-use lib.Dec.{ltb}
-use borrow.Author.Tests.{ltb-true}
+use Rattle.fields.proofs.Base.{_≡_, refl, subst, _&&_, List, ℕ, _-_, _≤_, _<_, arith, ltb, ltb-true}
 use Rattle.fields.proofs.Tests.{and-both}
 use Rattle.refusals.specs.Refusals.{refusalOf}
 use Rattle.entries.specs.Entry.{itemAt, withItem}

@@ -1,21 +1,15 @@
 -- What a walk reads from its start is what stands along the chain of its book, whatever the bytes and the record are: `walk-exact`.
-use mathlib.Core.Path.{_≡_, refl, sym, subst, _∙_}
-use mathlib.Core.Bool.{Bool, true, false, cond}
-use mathlib.Core.List.{List, [], _∷_, _++_, map}
-use Prim.Native.Nat.{ℕ, zero, suc, _-_, _≤_, _<_}
-use native.Mathlib.Omega.{arith}
-use lib.ListN.{length}
-use lib.Dec.{eqb}
-use borrow.Author.Tests.{lt-ltb, le-ltb}
+use Rattle.fields.proofs.Base.{_≡_, refl, sym, subst, _∙_, Bool, true, false, cond, List, [], _∷_, _++_, map, ℕ, zero, suc, _-_, _≤_, _<_, arith, length, eqb, lt-ltb, le-ltb}
 use Rattle.fields.proofs.Tests.{and-yes, and-no}
 use Rattle.fields.proofs.Parts.{part-inside}
 use Rattle.refusals.specs.Refusals.{noChunk}
-use Rattle.entries.specs.Entry.{itemAt}
+use Rattle.entries.specs.Entry.{itemAt, Entry, entryOf}
 use Rattle.entries.specs.declared.Place.{Place}
 use Rattle.entries.specs.declared.Item.the-variants.{Good}
 use Rattle.entries.proofs.Laws.{item-inside}
 use Rattle.entries.specs.declared.Kind.the-variants.{Listing}
-use Rattle.chunk.specs.Chunk.{Entry, all, entryOf, entriesAt, tailLength, entriesIn}
+use Rattle.chunk.specs.Chunk.{all, entriesAt, entriesIn}
+use Rattle.chunk_fields.specs.ChunkFields.{tailLength}
 use Rattle.chunk.proofs.Accepted.{entries-more, entries-none}
 use Rattle.header.specs.declared.Record.{Record}
 use Rattle.tree.specs.Shape.{isListing, nextOf, listingChunk}

@@ -5,7 +5,7 @@ use mathlib.Core.Bool.{Bool, cond}
 use mathlib.Core.List.{List, [], _∷_}
 use Rattle.refusals.specs.Refusals.{refusalOf}
 use Rattle.entries.specs.declared.Place.{Place}
-use Rattle.chunk.specs.Chunk.{entryOf}
+use Rattle.entries.specs.Entry.{entryOf}
 use Rattle.header.specs.declared.Record.{Record}
 use Rattle.tree.specs.Reading.{Held, heldAt, Reading, cut, reading}
 use Rattle.book.specs.Book.{chunkBytes, directoryOf, shapeOf, recordFits}

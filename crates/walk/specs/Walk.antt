@@ -9,7 +9,8 @@ use Rattle.refusals.specs.Refusals.{noChunk, refusalOf}
 use Rattle.entries.specs.Entry.{itemAt, withItem}
 use Rattle.entries.specs.declared.Place.{Place}
 use Rattle.entries.specs.declared.Kind.the-variants.{Listing}
-use Rattle.chunk.specs.Chunk.{Parsed, entriesIn, firstPlace}
+use Rattle.chunk.specs.Chunk.{Parsed, entriesIn}
+use Rattle.chunk_fields.specs.ChunkFields.{firstPlace}
 use Rattle.header.specs.declared.Record.{Record}
 use Rattle.tree.specs.Shape.{nextOf, listingChunk}
 use Rattle.book.specs.Book.{limitsOf, chunkBytes, directoryOf, shapeOf, recordFits}

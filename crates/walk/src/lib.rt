@@ -71,8 +71,8 @@ fn enter(w: Walk, file: &[u8], book: Record) -> Entered
         Chunk::Index => return Entered::Barred,
         Chunk::Refused(_) => return Entered::Barred,
     };
-    let at = chunk::first_place(Kind::Listing) as u64;
-    let left = chunk::entry_count(book::chunk_bytes(file, book, w.next)) as u64;
+    let at = chunk_fields::first_place(Kind::Listing) as u64;
+    let left = chunk_fields::entry_count(book::chunk_bytes(file, book, w.next)) as u64;
     Entered::Inside(Walk {
         chunk: w.next,
         at,

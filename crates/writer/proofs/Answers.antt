@@ -1,18 +1,10 @@
 -- The whole head, from its parts (`head-written`), and the writer's answers.
-use mathlib.Core.Path.{_≡_, refl, sym, ap, subst, _∙_}
-use mathlib.Core.Bool.{Bool, true, false, _&&_}
-use mathlib.Core.List.{List, [], _++_, map, flatten, append-assoc}
-use Prim.Native.Nat.{ℕ, _+_, _-_, _*_, _^_, _≤_, _<_, min}
-use native.Mathlib.Omega.{arith}
-use lib.ListN.{length, getD, take, drop, length-append, length-map}
-use lib.Seq.{sets, take-at}
-use lib.Dec.{ltb, leb}
-use borrow.Author.Tests.{le-leb, lt-leb, leb-true}
+use Rattle.fields.proofs.Base.{_≡_, refl, sym, ap, subst, _∙_, Bool, true, false, _&&_, List, [], _++_, map, flatten, append-assoc, ℕ, _+_, _-_, _*_, _^_, _≤_, _<_, min, arith, length, getD, take, drop, length-append, length-map, sets, take-at, ltb, leb, le-leb, lt-leb, leb-true}
 use Rattle.fields.proofs.Put.{sets-parts}
 use Rattle.fields.proofs.Tests.{and-both, and-no}
 use Rattle.entries.specs.declared.Kind.the-variants.{Listing, Index}
 use Rattle.refusals.specs.Refusals.{refusalOf}
-use Rattle.chunk.specs.Chunk.{spacingOf}
+use Rattle.chunk_fields.specs.ChunkFields.{spacingOf}
 use Rattle.entries.specs.Stored.{Stored, storedOf}
 use Rattle.source.specs.Input.{given, inputRight}
 use Rattle.source.proofs.Unpadded.{input-bytes}

@@ -1,9 +1,6 @@
 -- The headers as 32-bit numbers one behind another, as the code writes them.
-use mathlib.Core.Path.{_≡_, refl, sym, ap, ap₂, _∙_}
-use mathlib.Core.List.{List, [], _∷_, _++_, flatten, flatMap}
-use Prim.Native.Nat.{ℕ, zero, suc, _+_, _*_, _/_, _%_, _^_, _≤_, _<_}
-use native.Mathlib.Nat.{pow-succ', mul-assoc}
-use native.Mathlib.Omega.{arith}
+use Rattle.fields.proofs.Base.{_≡_, refl, sym, ap, ap₂, _∙_, List, [], _∷_, _++_, flatten, flatMap, ℕ, zero, suc, _+_, _*_, _/_, _%_, _^_, _≤_, _<_, pow-succ', arith}
+use native.Mathlib.Nat.{mul-assoc}
 use Rattle.fields.specs.Le.{bytes}
 use Rattle.file_header.specs.FileHeader.{fileTag, fileGuid}
 use Rattle.compose.specs.NewChunk.{wordBytes}

@@ -1,11 +1,6 @@
 -- The loop that writes the index levels: before each level (`Indexing`), and what a turn leaves. The highest level so far has the chunks gs,
 -- numbered from base up to end.
-use mathlib.Core.Path.{_≡_, refl, sym, ap, subst, _∙_}
-use mathlib.Core.List.{List, [], _∷_, _++_, map, flatten}
-use Prim.Native.Nat.{ℕ, _+_, _-_, _*_, _≤_, _<_}
-use native.Mathlib.Omega.{arith}
-use lib.ListN.{length, take}
-use lib.Seq.{sets}
+use Rattle.fields.proofs.Base.{_≡_, refl, sym, ap, subst, _∙_, List, [], _∷_, _++_, map, flatten, ℕ, _+_, _-_, _*_, _≤_, _<_, arith, length, take, sets}
 use Rattle.fields.specs.Part.{part}
 use Rattle.fields.proofs.Put.{sets-after}
 use Rattle.entries.specs.declared.Kind.the-variants.{Index}

@@ -1,10 +1,5 @@
 -- Chunks one behind another: each is 4,096 bytes long, and those of several levels are those of one behind another.
-use mathlib.Core.Path.{_≡_, sym, ap, _∙_}
-use mathlib.Core.List.{List, [], _∷_, _++_, map, flatten}
-use Prim.Native.Nat.{ℕ, _+_, _*_, _≤_}
-use native.Mathlib.Nat.{add-zero}
-use native.Mathlib.Omega.{arith}
-use lib.ListN.{length, length-map}
+use Rattle.fields.proofs.Base.{_≡_, sym, ap, _∙_, List, [], _∷_, _++_, map, flatten, ℕ, _+_, _*_, _≤_, add-zero, arith, length, length-map}
 use Rattle.fields.specs.Part.{part}
 use Rattle.fields.proofs.Parts.{length-part}
 use Rattle.entries.specs.declared.Place.{Place}

@@ -1,10 +1,5 @@
 -- A part of a list that was lent and has come back, and parts that are read back.
-use mathlib.Core.Path.{_≡_, sym, ap, _∙_}
-use mathlib.Core.List.{List, _++_}
-use Prim.Native.Nat.{ℕ, _+_, _≤_}
-use native.Mathlib.Omega.{arith}
-use lib.ListN.{length, take, drop}
-use lib.Seq.{sets, drop-drop, take-at, drop-at, take-append-seam, length-take-le}
+use Rattle.fields.proofs.Base.{_≡_, sym, ap, _∙_, List, _++_, ℕ, _+_, _≤_, arith, length, take, drop, sets, drop-drop, take-at, drop-at, take-append-seam, length-take-le}
 use Rattle.fields.specs.Part.{part}
 use Rattle.fields.proofs.Put.{sets-parts}
 

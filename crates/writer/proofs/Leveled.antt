@@ -1,11 +1,6 @@
 -- The loop that writes one level: before each chunk (`Leveled`), and what a turn leaves. The cursor is at `here` with
 -- `left` that may be taken, and chunk j comes next; at first it was at `base` with `all`.
-use mathlib.Core.Path.{_≡_, refl, sym, ap, _∙_}
-use mathlib.Core.List.{List, [], map, flatten}
-use Prim.Native.Nat.{ℕ, _+_, _*_, _≤_, _<_}
-use native.Mathlib.Omega.{arith}
-use lib.ListN.{length, take}
-use lib.Seq.{sets}
+use Rattle.fields.proofs.Base.{_≡_, refl, sym, ap, _∙_, List, [], map, flatten, ℕ, _+_, _*_, _≤_, _<_, arith, length, take, sets}
 use Rattle.fields.proofs.Put.{sets-after}
 use Rattle.entries.specs.declared.Place.{Place}
 use Rattle.entries.specs.declared.Item.the-variants.{Good}

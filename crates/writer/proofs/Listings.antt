@@ -1,15 +1,6 @@
 -- The loop that reads the input: before each entry (`Reading`), and what a turn leaves. The next entry is at `here`, and `left` may be taken; the
 -- name before it is the `len` bytes at `from`, and f has the chunks so far.
-use mathlib.Core.Path.{_≡_, refl, sym, ap, _∙_}
-use mathlib.Core.Bool.{Bool, true, false, cond, _&&_}
-use mathlib.Core.List.{List, [], _∷_, map}
-use Prim.Native.Nat.{ℕ, _+_, _-_, _*_, _^_, _≤_, _<_}
-use native.Mathlib.Omega.{arith}
-use native.Mathlib.Numerals.{add-one}
-use lib.ListN.{length, take, set, length-set}
-use lib.Seq.{sets}
-use lib.Dec.{eqb}
-use borrow.Author.Tests.{lt-leb, eq-eqb, ne-eqb}
+use Rattle.fields.proofs.Base.{_≡_, refl, sym, ap, _∙_, Bool, true, false, cond, _&&_, List, [], _∷_, map, ℕ, _+_, _-_, _*_, _^_, _≤_, _<_, arith, add-one, length, take, set, length-set, sets, eqb, lt-leb, eq-eqb, ne-eqb}
 use Rattle.fields.specs.Part.{part}
 use Rattle.fields.proofs.Tests.{and-no}
 use Rattle.names.specs.Names.{below}
@@ -17,7 +8,7 @@ use Rattle.entries.specs.Entry.{listingAt, nameOf}
 use Rattle.entries.specs.declared.Place.{Place}
 use Rattle.entries.specs.declared.Item.the-variants.{Good}
 use Rattle.entries.specs.declared.Kind.the-variants.{Listing}
-use Rattle.chunk.specs.Chunk.{firstPlace, quickCount}
+use Rattle.chunk_fields.specs.ChunkFields.{firstPlace, quickCount}
 use Rattle.entries.proofs.Laws.{listing-inside}
 use Rattle.entries.specs.Stored.{storedOf, entryBytes, unpadded}
 use Rattle.source.specs.Source.{itemFrom, rowsFrom}

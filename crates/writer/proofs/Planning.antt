@@ -1,12 +1,7 @@
 -- The loop that plans one index level: before each chunk (`Planning`), and what a turn leaves. The cursor is at `here` with
 -- `left` that may be taken, and chunk j comes next.
-use mathlib.Core.Path.{_≡_, refl, sym, ap, _∙_}
-use mathlib.Core.List.{List, [], _∷_, map}
-use Prim.Native.Nat.{ℕ, _+_, _-_, _≤_, _<_}
-use native.Mathlib.Omega.{arith}
-use native.Mathlib.Numerals.{add-one}
-use lib.ListN.{length, take, set, length-set}
-use lib.Seq.{sets, take-set-le}
+use Rattle.fields.proofs.Base.{_≡_, refl, sym, ap, _∙_, List, [], _∷_, map, ℕ, _+_, _-_, _≤_, _<_, arith, add-one, length, take, set, length-set, sets}
+use lib.Seq.{take-set-le}
 use Rattle.entries.specs.declared.Place.{Place}
 use Rattle.entries.specs.declared.Item.the-variants.{Good}
 use Rattle.entries.specs.declared.Kind.the-variants.{Index}

@@ -1,12 +1,7 @@
 -- The loop that plans the index levels: before each level (`Shaping`), and what a turn leaves. The highest level so far has the chunks gs,
 -- numbered from base up to end.
-use mathlib.Core.Path.{_≡_, refl, sym, ap, ap₂, subst, _∙_}
-use mathlib.Core.Bool.{false}
-use mathlib.Core.List.{List, [], _∷_, _++_, map, flatten}
-use Prim.Native.Nat.{ℕ, suc, _+_, _-_, _≤_, _<_}
-use native.Mathlib.Omega.{arith}
-use lib.ListN.{length, take, length-append, length-map}
-use lib.Seq.{take-add, take-take, length-take-le}
+use Rattle.fields.proofs.Base.{_≡_, refl, sym, ap, ap₂, subst, _∙_, false, List, [], _∷_, _++_, map, flatten, ℕ, suc, _+_, _-_, _≤_, _<_, arith, length, take, length-append, length-map, take-take, length-take-le}
+use lib.Seq.{take-add}
 use Rattle.fields.specs.Part.{part}
 use Rattle.entries.specs.Stored.{Stored, storedOf}
 use Rattle.pack.specs.Levels.{level, childrenOf, levelsAbove}

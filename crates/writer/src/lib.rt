@@ -7,7 +7,7 @@ ghost use lib.Seq.{sets};
 ghost use Rattle.fields.specs.Part.{part};
 ghost use Rattle.names.specs.Names.{below};
 ghost use Rattle.entries.specs.Entry.{listingAt};
-ghost use Rattle.chunk.specs.Chunk.{spacingOf};
+ghost use Rattle.chunk_fields.specs.ChunkFields.{spacingOf};
 ghost use Rattle.entries.specs.Stored.{storedOf};
 ghost use Rattle.source.specs.Source.{takenOf, rowsFrom};
 ghost use Rattle.source.specs.Input.{given};
@@ -461,7 +461,7 @@ pub fn write_head(
     if !is_taken(density, content_length) {
         return Written::Refused(refusals::refuse(18));
     }
-    let n = chunk::spacing(density as u64);
+    let n = chunk_fields::spacing(density as u64);
     let mut starts = [0usize; 4096];
     let shape = plan(entries, content_length, n, &mut starts);
     match shape {

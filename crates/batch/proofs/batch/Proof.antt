@@ -1,6 +1,4 @@
-use borrow.Author.Needs.{needs}
-use mathlib.Core.Path.{sym, _∙_}
-use denote.Ref.{now}
+use Rattle.fields.proofs.Base.{needs, sym, _∙_, now}
 use Rattle.batch.proofs.Called.{opened-batch, refused-batch}
 use Rattle.batch.proofs.batch.Statement.{statement}
 use Rattle.batch.proofs.batch.Tie as tie

@@ -1,6 +1,4 @@
-use borrow.Author.Needs.{needs}
-use mathlib.Core.Path.{_≡_, sym, ap, _∙_}
-use denote.Ref.{now}
+use Rattle.fields.proofs.Base.{needs, _≡_, sym, ap, _∙_, now}
 use Rattle.batch.specs.Batch.{namesIn}
 use Rattle.batch.specs.Step.{countedAs}
 use Rattle.batch.specs.declared.Batched.the-variants.{Refused}

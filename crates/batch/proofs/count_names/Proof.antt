@@ -1,9 +1,4 @@
-use borrow.Author.Needs.{needs}
-use mathlib.Core.Path.{_≡_, sym, _∙_}
-use Prim.Native.Nat.{_-_}
-use native.Mathlib.Omega.{arith}
-use lib.ListN.{length}
-use denote.Ref.{now}
+use Rattle.fields.proofs.Base.{needs, _≡_, sym, _∙_, _-_, arith, length, now}
 use Rattle.encint.specs.declared.Number.the-variants.{Value}
 use Rattle.batch.specs.Batch.{askedAt}
 use Rattle.batch.proofs.Asked.{asked-inside, Counting, counting-start, counting-end, counting-cut, counting-more}

@@ -1,5 +1,4 @@
-use borrow.Author.Needs.{needs}
-use denote.Ref.{now}
+use Rattle.fields.proofs.Base.{needs, now}
 use Rattle.batch.proofs.Results.{four-puts}
 use Rattle.batch.proofs.put_four.Statement.{statement}
 use Rattle.batch.proofs.put_four.Tie as tie

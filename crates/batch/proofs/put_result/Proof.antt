@@ -1,7 +1,4 @@
-use borrow.Author.Needs.{needs}
-use mathlib.Core.Path.{sym, ap, _∙_}
-use lib.Seq.{sets}
-use denote.Ref.{now}
+use Rattle.fields.proofs.Base.{needs, sym, ap, _∙_, sets, now}
 use Rattle.batch.specs.Batch.{resultOf}
 use Rattle.batch.proofs.put_result.Statement.{statement}
 use Rattle.batch.proofs.put_result.Tie as tie

@@ -1,6 +1,4 @@
-use borrow.Author.Needs.{needs}
-use borrow.Author.Tests.{le-ltb, lt-ltb}
-use native.Mathlib.Omega.{arith}
+use Rattle.fields.proofs.Base.{needs, le-ltb, lt-ltb, arith}
 use Rattle.book.specs.Book.{directoryOf, checkedChunk}
 use Rattle.book.proofs.checked_chunk.Statement.{statement}
 use Rattle.book.proofs.checked_chunk.Tie as tie

@@ -1,8 +1,4 @@
-use borrow.Author.Needs.{needs}
-use mathlib.Core.Path.{sym}
-use native.Mathlib.Nat.{add-sub-cancel-left}
-use native.Mathlib.Omega.{arith}
-use denote.Ref.{now}
+use Rattle.fields.proofs.Base.{needs, sym, add-sub-cancel-left, arith, now}
 use Rattle.fields.proofs.Parts.{part-inside, part-outside}
 use Rattle.book.specs.Book.{chunkBytes, chunkPlace}
 use Rattle.book.proofs.chunk_bytes.Statement.{statement}

@@ -1,8 +1,4 @@
-use mathlib.Core.Path.{_≡_, refl}
-use Prim.Native.Nat.{_-_}
-use native.Mathlib.Omega.{arith}
-use lib.ListN.{length}
-use denote.Ref.{now}
+use Rattle.fields.proofs.Base.{_≡_, refl, _-_, arith, length, now}
 use Rattle.book.specs.Book.{limitsOf}
 use Rattle.book.proofs.limits.Statement.{statement}
 use Rattle.book.proofs.limits.Tie as tie

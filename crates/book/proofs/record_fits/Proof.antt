@@ -1,5 +1,4 @@
-use borrow.Author.Tests.{le-leb, lt-leb}
-use native.Mathlib.Omega.{arith}
+use Rattle.fields.proofs.Base.{le-leb, lt-leb, arith}
 use Rattle.book.specs.Book.{recordFits}
 use Rattle.book.proofs.record_fits.Statement.{statement}
 use Rattle.book.proofs.record_fits.Tie as tie

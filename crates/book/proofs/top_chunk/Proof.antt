@@ -1,4 +1,4 @@
-use borrow.Author.Tests.{eq-eqb, ne-eqb}
+use Rattle.fields.proofs.Base.{eq-eqb, ne-eqb}
 use Rattle.tree.specs.Tree.{top}
 use Rattle.book.proofs.top_chunk.Statement.{statement}
 use Rattle.book.proofs.top_chunk.Tie as tie

@@ -1,9 +1,7 @@
-use borrow.Author.Needs.{needs}
-use borrow.Author.Tests.{eq-eqb, ne-eqb}
-use mathlib.Core.Path.{_≡_, sym, ap, _∙_}
-use denote.Ref.{now}
+use Rattle.fields.proofs.Base.{needs, eq-eqb, ne-eqb, _≡_, sym, ap, _∙_, now}
 use Rattle.entries.specs.declared.Kind.the-variants.{Listing, Index}
-use Rattle.chunk.specs.Chunk.{spacingOf, parsedAs, parsed}
+use Rattle.chunk_fields.specs.ChunkFields.{spacingOf}
+use Rattle.chunk.specs.Chunk.{parsedAs, parsed}
 use Rattle.chunk.specs.Answer.{chunkOf}
 use Rattle.chunk.proofs.check.Statement.{statement}
 use Rattle.chunk.proofs.check.Tie as tie

@@ -1,18 +1,11 @@
-use borrow.Author.Needs.{needs}
-use borrow.Author.Tests.{eq-eqb, ne-eqb, not-true, not-false}
-use mathlib.Core.Path.{_≡_, sym, _∙_}
-use mathlib.Core.Bool.{cond}
-use mathlib.Core.List.{[]}
-use native.Mathlib.Omega.{arith}
-use Prim.Native.Nat.{_+_, _-_, _*_, _≤_, _<_}
-use lib.ListN.{length}
-use lib.Dec.{eqb}
-use denote.Ref.{now}
+use Rattle.fields.proofs.Base.{needs, eq-eqb, ne-eqb, not-true, _≡_, sym, _∙_, cond, [], arith, _+_, _-_, _*_, _≤_, _<_, length, eqb, now}
+use borrow.Author.Tests.{not-false}
 use Rattle.fields.specs.Part.{part}
 use Rattle.entries.specs.Entry.{itemAt}
 use Rattle.entries.specs.declared.Item.the-variants.{Good}
 use Rattle.entries.proofs.Laws.{Inside, item-inside}
-use Rattle.chunk.specs.Chunk.{firstPlace, entriesAt, parsedWith, checkedEntries}
+use Rattle.chunk_fields.specs.ChunkFields.{firstPlace}
+use Rattle.chunk.specs.Chunk.{entriesAt, parsedWith, checkedEntries}
 use Rattle.chunk.specs.Answer.{chunkOf}
 use Rattle.chunk.specs.declared.Chunk.the-variants.{Refused}
 use Rattle.chunk.proofs.Frame.{head-small}

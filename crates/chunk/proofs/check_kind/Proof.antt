@@ -1,13 +1,6 @@
-use borrow.Author.Needs.{needs}
-use borrow.Author.Tests.{lt-ltb, le-ltb, le-leb, lt-leb}
-use mathlib.Core.Path.{_≡_, refl, sym, ap, _∙_}
-use mathlib.Core.Bool.{cond, _&&_}
-use native.Mathlib.Omega.{arith}
-use native.Mathlib.Nat.{div-le-self}
-use Prim.Native.Nat.{ℕ, _+_, _-_, _*_, _<_}
-use lib.Dec.{ltb, leb}
-use denote.Ref.{now}
-use Rattle.chunk.specs.Chunk.{bad, firstPlace, quickCount, spacingOf, entryCount, entriesAt, checkedEntries, parsedAs}
+use Rattle.fields.proofs.Base.{needs, lt-ltb, le-ltb, le-leb, lt-leb, _≡_, refl, sym, ap, _∙_, cond, _&&_, arith, div-le-self, ℕ, _+_, _-_, _*_, _<_, ltb, leb, now}
+use Rattle.chunk.specs.Chunk.{bad, entriesAt, checkedEntries, parsedAs}
+use Rattle.chunk_fields.specs.ChunkFields.{firstPlace, quickCount, spacingOf, entryCount}
 use Rattle.chunk.proofs.Frame.{head-small, framed-as, parsed-capped}
 use Rattle.chunk.proofs.check_kind.Statement.{statement}
 use Rattle.chunk.proofs.check_kind.Tie as tie
@@ -21,17 +14,17 @@ entry-count-requires c κs = search needs
 cast-total : tie.Need-cast-total
 cast-total c = search needs
 
-le32-requires : tie.Need-le32-requires
-le32-requires c κs = search needs
+tail-length-requires : tie.Need-tail-length-requires
+tail-length-requires c κs = search needs
 
 cast-tail : tie.Need-cast-tail
 cast-tail c = search needs
 
 -- the chunk's meaning over the numbers that were read, with its quick words and its header's length
-whole : (c : tie.After-le32) (q h : ℕ) → q ≡ quickCount (c .before .before .spacing .result) (c .before .entry-count .result)
+whole : (c : tie.After-tail-length) (q h : ℕ) → q ≡ quickCount (c .before .before .spacing .result) (c .before .entry-count .result)
     → h ≡ firstPlace (c .before .before .before .before .args .kind)
     → let a = c .before .before .before .before .args in
-    let n = c .before .before .spacing .result in let k = c .before .entry-count .result in let t = c .le32 .result in
+    let n = c .before .before .spacing .result in let k = c .before .entry-count .result in let t = c .tail-length .result in
     parsedAs (spacingOf (a .limits .density)) (a .limits) (a .kind) (now (a .c))
     ≡ cond (ltb 0 k && (leb (2 + 2 * q) t && leb t (4096 - h))) (checkedEntries n (a .kind) (now (a .c)) (entriesAt (a .limits) (a .kind) (now (a .c)) (4096 - t) k (firstPlace (a .kind)))) (bad 9)
 whole c q h eq eh =
@@ -40,7 +33,7 @@ whole c q h eq eh =
     let small : entryCount (now (a .c)) < 65536 = omega (arith, c .before .entry-count .ensures) in
     sym (parsed-capped (a .limits) (a .kind) (now (a .c)) small)
     ∙ ap (λ (m : ℕ). parsedAs m (a .limits) (a .kind) (now (a .c))) (sym (n .ensures))
-    ∙ framed-as (a .limits) (a .kind) (now (a .c)) (n .result) (c .before .entry-count .result) q (c .le32 .result) h (c .before .entry-count .ensures) eq (c .le32 .ensures) eh
+    ∙ framed-as (a .limits) (a .kind) (now (a .c)) (n .result) (c .before .entry-count .result) q (c .tail-length .result) h (c .before .entry-count .ensures) eq (c .tail-length .ensures) eh
 
 returns : tie.Need-returns
 returns c = simp (whole (c .before) _ _ refl refl, le-ltb 0 (c .before .before .entry-count .result) (omega arith))
@@ -59,7 +52,7 @@ returns-2 c =
     let w = c .before in
     let g = w .before .before in
     let q = w .quick-words .result in
-    simp (whole g q _ (w .quick-words .ensures) refl, lt-ltb 0 (g .before .entry-count .result) (omega arith), lt-leb (2 + 2 * q) (g .le32 .result) (omega arith))
+    simp (whole g q _ (w .quick-words .ensures) refl, lt-ltb 0 (g .before .entry-count .result) (omega arith), lt-leb (2 + 2 * q) (g .tail-length .result) (omega arith))
 
 first-place-requires : tie.Need-first-place-requires
 first-place-requires c κs = search needs
@@ -76,8 +69,8 @@ returns-3 c =
     simp (
       whole g q h (w .quick-words .ensures) (c .before .first-place .ensures),
       lt-ltb 0 (g .before .entry-count .result) (omega arith),
-      le-leb (2 + 2 * q) (g .le32 .result) (omega arith),
-      lt-leb (g .le32 .result) (4096 - h) (omega arith),
+      le-leb (2 + 2 * q) (g .tail-length .result) (omega arith),
+      lt-leb (g .tail-length .result) (4096 - h) (omega arith),
     )
 
 sub-check-entries : tie.Need-sub-check-entries
@@ -95,8 +88,8 @@ returns-4 c =
     simp (
       whole g q h (w .quick-words .ensures) (c .before .before .first-place .ensures),
       lt-ltb 0 (g .before .entry-count .result) (omega arith),
-      le-leb (2 + 2 * q) (g .le32 .result) (omega arith),
-      le-leb (g .le32 .result) (4096 - h) (omega arith),
+      le-leb (2 + 2 * q) (g .tail-length .result) (omega arith),
+      le-leb (g .tail-length .result) (4096 - h) (omega arith),
     )
     (c .check-entries .ensures)
 
@@ -107,7 +100,7 @@ check-kind-spec =
     spacing-requires
     entry-count-requires
     cast-total
-    le32-requires
+    tail-length-requires
     cast-tail
     returns
     quick-words-requires

@@ -1,4 +1,4 @@
-use borrow.Author.Needs.{needs}
+use Rattle.fields.proofs.Base.{needs}
 use Rattle.chunk.proofs.good_chunk.Statement.{statement}
 use Rattle.chunk.proofs.good_chunk.Tie as tie
 

@@ -1,5 +1,4 @@
-use borrow.Author.Needs.{needs}
-use borrow.Author.Tests.{lt-ltb, le-ltb, eq-eqb, ne-eqb}
+use Rattle.fields.proofs.Base.{needs, lt-ltb, le-ltb, eq-eqb, ne-eqb}
 use Rattle.chunk.proofs.still_quick.Statement.{statement}
 use Rattle.chunk.proofs.still_quick.Tie as tie
 

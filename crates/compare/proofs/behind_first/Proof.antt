@@ -1,5 +1,4 @@
-use borrow.Author.Needs.{needs}
-use mathlib.Core.Path.{refl, ap}
+use Rattle.fields.proofs.Base.{needs, refl, ap}
 use Rattle.compare.specs.Compare.{behindFirst}
 use Rattle.compare.specs.declared.Turn.the-variants.{Tell}
 use Rattle.compare.proofs.behind_first.Statement.{statement}

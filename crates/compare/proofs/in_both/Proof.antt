@@ -1,6 +1,4 @@
-use borrow.Author.Needs.{needs}
-use mathlib.Core.Path.{_≡_, sym, _∙_}
-use mathlib.Core.Bool.{true, false}
+use Rattle.fields.proofs.Base.{needs, _≡_, sym, _∙_, true, false}
 use Rattle.compare.specs.Compare.{sameAt, inBoth}
 use Rattle.compare.proofs.in_both.Statement.{statement}
 use Rattle.compare.proofs.in_both.Tie as tie

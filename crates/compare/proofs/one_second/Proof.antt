@@ -1,4 +1,4 @@
-use borrow.Author.Needs.{needs}
+use Rattle.fields.proofs.Base.{needs}
 use Rattle.compare.proofs.one_second.Statement.{statement}
 use Rattle.compare.proofs.one_second.Tie as tie
 

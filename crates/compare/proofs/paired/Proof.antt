@@ -1,6 +1,4 @@
-use borrow.Author.Needs.{needs}
-use mathlib.Core.Path.{_≡_}
-use denote.Ref.{now}
+use Rattle.fields.proofs.Base.{needs, _≡_, now}
 use Rattle.names.specs.Names.{compared}
 use Rattle.walk.specs.Walk.{nameHere}
 use Rattle.compare.specs.Compare.{paired}

@@ -1,8 +1,5 @@
 -- The invariant: the chunks are those of the two walks, and what was passed so far leaves the step as it is.
-use borrow.Author.Needs.{needs}
-use mathlib.Core.Path.{_≡_, ap, subst}
-use native.Mathlib.Omega.{arith}
-use denote.Ref.{now}
+use Rattle.fields.proofs.Base.{needs, _≡_, ap, subst, arith, now}
 use Rattle.entries.specs.declared.Place.{Place}
 use Rattle.book.specs.Book.{limitsOf, chunkBytes}
 use Rattle.walk.specs.Walk.{afterOf, weight}

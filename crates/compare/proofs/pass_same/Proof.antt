@@ -1,4 +1,4 @@
-use borrow.Author.Needs.{needs}
+use Rattle.fields.proofs.Base.{needs}
 use Rattle.fields.proofs.Tests.{held}
 use Rattle.compare.proofs.Passing.{passed-none}
 use Rattle.compare.proofs.pass_same.Statement.{statement}

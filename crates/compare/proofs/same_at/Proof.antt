@@ -1,5 +1,4 @@
-use mathlib.Core.Path.{refl}
-use borrow.Author.Tests.{eq-eqb, ne-eqb}
+use Rattle.fields.proofs.Base.{refl, eq-eqb, ne-eqb}
 use Rattle.compare.proofs.same_at.Statement.{statement}
 use Rattle.compare.proofs.same_at.Tie as tie
 

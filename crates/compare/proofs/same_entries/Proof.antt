@@ -1,6 +1,4 @@
-use borrow.Author.Needs.{needs}
-use mathlib.Core.Path.{_≡_, sym, _∙_}
-use denote.Ref.{now}
+use Rattle.fields.proofs.Base.{needs, _≡_, sym, _∙_, now}
 use Rattle.fields.specs.Part.{partOf}
 use Rattle.fields.proofs.Tests.{held}
 use Rattle.names.specs.Names.{compared}

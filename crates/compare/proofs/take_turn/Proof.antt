@@ -1,5 +1,4 @@
-use borrow.Author.Needs.{needs}
-use mathlib.Core.Path.{ap}
+use Rattle.fields.proofs.Base.{needs, ap}
 use Rattle.compare.specs.Compare.{turned}
 use Rattle.compare.specs.declared.Turn.the-variants.{Tell}
 use Rattle.compare.proofs.take_turn.Statement.{statement}

@@ -1,11 +1,7 @@
 -- `compose::put_entries` meets its contract. The loop's invariant: what is taken is written, and with what is yet to be taken is the whole.
-use mathlib.Core.Path.{_≡_, refl, sym, _∙_}
-use native.Mathlib.Omega.{arith}
-use lib.ListN.{length}
-use denote.Ref.{now}
+use Rattle.fields.proofs.Base.{_≡_, refl, sym, _∙_, arith, length, now, needs}
 use Rattle.pack.proofs.Filling.{Fitted, fitted}
 use Rattle.compose.proofs.Turns.{Putting, Turn, putting-start, putting-turn, putting-more, putting-end}
-use borrow.Author.Needs.{needs}
 use Rattle.compose.proofs.put_entries.Statement.{statement}
 use Rattle.compose.proofs.put_entries.Tie as tie
 

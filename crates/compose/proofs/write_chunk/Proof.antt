@@ -1,14 +1,5 @@
-use mathlib.Core.Path.{_≡_, sym, ap, _∙_}
-use mathlib.Core.Bool.{cond}
-use mathlib.Core.List.{List}
-use Prim.Native.Nat.{ℕ}
-use native.Mathlib.Omega.{arith}
-use lib.ListN.{length, replicate}
-use lib.Dec.{eqb}
-use denote.Ref.{now}
-use borrow.Author.Tests.{eq-eqb, ne-eqb}
+use Rattle.fields.proofs.Base.{_≡_, sym, ap, _∙_, cond, List, ℕ, arith, length, replicate, eqb, now, eq-eqb, ne-eqb, needs}
 use Rattle.compose.proofs.Whole.{Told, extent-told, chunk-written}
-use borrow.Author.Needs.{needs}
 use Rattle.compose.proofs.write_chunk.Statement.{statement}
 use Rattle.compose.proofs.write_chunk.Tie as tie
 

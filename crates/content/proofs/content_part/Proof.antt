@@ -1,7 +1,4 @@
-use mathlib.Core.Path.{sym, _∙_}
-use native.Mathlib.Omega.{arith}
-use denote.Ref.{now}
-use borrow.Author.Needs.{needs}
+use Rattle.fields.proofs.Base.{sym, _∙_, arith, now, needs}
 use Rattle.content.proofs.Contents.{content-zero, content-other, content-outside}
 use Rattle.content.proofs.content_part.Statement.{statement}
 use Rattle.content.proofs.content_part.Tie as tie

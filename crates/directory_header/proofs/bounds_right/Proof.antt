@@ -1,5 +1,4 @@
-use borrow.Author.Needs.{needs}
-use borrow.Author.Tests.{eq-eqb, ne-eqb, le-leb, lt-leb}
+use Rattle.fields.proofs.Base.{needs, eq-eqb, ne-eqb, le-leb, lt-leb}
 use Rattle.fields.proofs.Tests.{held, failed}
 use Rattle.directory_header.specs.DirectoryHeader.{boundsRight}
 use Rattle.directory_header.proofs.bounds_right.Statement.{statement}

@@ -1,6 +1,4 @@
-use borrow.Author.Needs.{needs}
-use mathlib.Core.Path.{_≡_, sym, ap, _∙_}
-use denote.Ref.{now}
+use Rattle.fields.proofs.Base.{needs, _≡_, sym, ap, _∙_, now}
 use Rattle.fields.proofs.Tests.{held, failed}
 use Rattle.directory_header.specs.DirectoryHeader.{directoryFieldsOf, directoryRight, directoryHeaderOf}
 use Rattle.directory_header.specs.declared.DirectoryFields.{DirectoryFields}

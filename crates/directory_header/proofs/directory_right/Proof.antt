@@ -1,8 +1,4 @@
-use borrow.Author.Needs.{needs}
-use borrow.Author.Tests.{eq-eqb, ne-eqb}
-use mathlib.Core.Path.{_≡_}
-use mathlib.Core.Bool.{true}
-use native.Mathlib.Omega.{arith}
+use Rattle.fields.proofs.Base.{needs, eq-eqb, ne-eqb, _≡_, true, arith}
 use Rattle.fields.proofs.Tests.{held, failed}
 use Rattle.directory_header.specs.DirectoryHeader.{boundsRight, directoryRight}
 use Rattle.directory_header.proofs.Rules.{bounds-told}

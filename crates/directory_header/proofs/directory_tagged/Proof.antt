@@ -1,5 +1,4 @@
-use borrow.Author.Needs.{needs}
-use borrow.Author.Tests.{eq-eqb, ne-eqb}
+use Rattle.fields.proofs.Base.{needs, eq-eqb, ne-eqb}
 use Rattle.fields.proofs.Tests.{held, failed}
 use Rattle.directory_header.specs.DirectoryHeader.{directoryTagged}
 use Rattle.directory_header.proofs.directory_tagged.Statement.{statement}

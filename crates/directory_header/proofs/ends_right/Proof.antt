@@ -1,4 +1,4 @@
-use borrow.Author.Tests.{lt-ltb, le-ltb}
+use Rattle.fields.proofs.Base.{lt-ltb, le-ltb}
 use Rattle.directory_header.specs.DirectoryHeader.{endsRight}
 use Rattle.directory_header.proofs.ends_right.Statement.{statement}
 use Rattle.directory_header.proofs.ends_right.Tie as tie

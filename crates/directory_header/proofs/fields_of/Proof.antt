@@ -1,4 +1,4 @@
-use borrow.Author.Needs.{needs}
+use Rattle.fields.proofs.Base.{needs}
 use Rattle.directory_header.proofs.fields_of.Statement.{statement}
 use Rattle.directory_header.proofs.fields_of.Tie as tie
 

@@ -1,4 +1,4 @@
-use borrow.Author.Tests.{le-leb, lt-leb}
+use Rattle.fields.proofs.Base.{le-leb, lt-leb}
 use Rattle.directory_header.proofs.is_within.Statement.{statement}
 use Rattle.directory_header.proofs.is_within.Tie as tie
 

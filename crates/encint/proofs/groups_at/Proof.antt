@@ -1,10 +1,5 @@
 -- `encint::groups_at` meets its contract. The loop's invariant: what is left makes the whole, of a value that stays small.
-use mathlib.Core.Path.{_≡_, sym, ap, _∙_}
-use Prim.Native.Nat.{ℕ, _+_, _-_, _*_, _%_, _^_, _≤_, _<_}
-use native.Mathlib.Decide.{decLt}
-use native.Mathlib.Omega.{arith}
-use borrow.Author.Needs.{needs}
-use lib.ListN.{length, getD, drop}
+use Rattle.fields.proofs.Base.{_≡_, sym, ap, _∙_, ℕ, _+_, _-_, _*_, _%_, _^_, _≤_, _<_, decLt, arith, needs, length, getD, drop}
 use Rattle.encint.specs.Encint.{rest}
 use Rattle.encint.proofs.Reading.{rest-spent, turn-past, turn-last, turn-more, grows, small}
 use Rattle.encint.proofs.groups_at.Statement.{statement}

@@ -1,6 +1,4 @@
-use mathlib.Core.Path.{sym, _∙_}
-use native.Mathlib.Omega.{arith}
-use borrow.Author.Needs.{needs}
+use Rattle.fields.proofs.Base.{sym, _∙_, arith, needs}
 use Rattle.encint.proofs.Reading.{at-past, at-one, at-cut, at-number}
 use Rattle.encint.proofs.Padded.{answer-exact}
 use Rattle.encint.proofs.read.Statement.{statement}

@@ -1,8 +1,5 @@
 -- `encint::size` meets its contract. The loop's invariant: the groups counted and those that are left make all.
-use mathlib.Core.Path.{_≡_}
-use Prim.Native.Nat.{_+_, _-_, _/_, _^_, _≤_, _<_}
-use native.Mathlib.Omega.{arith}
-use borrow.Author.Needs.{needs}
+use Rattle.fields.proofs.Base.{_≡_, _+_, _-_, _/_, _^_, _≤_, _<_, arith, needs}
 use Rattle.encint.specs.Encint.{sevenBitGroups}
 use Rattle.encint.proofs.Writing.{encoded-none, length-encoded, room, less-step, groups-step, groups-zero}
 use Rattle.encint.proofs.size.Statement.{statement}

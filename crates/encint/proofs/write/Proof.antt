@@ -1,7 +1,4 @@
-use mathlib.Core.Path.{_∙_}
-use native.Mathlib.Omega.{arith}
-use borrow.Author.Needs.{needs}
-use lib.ListN.{length-set}
+use Rattle.fields.proofs.Base.{_∙_, arith, needs, length-set}
 use Rattle.encint.specs.Encint.{encoded}
 use Rattle.encint.proofs.Writing.{stored, wrote-none, wrote-outside, wrote-inside}
 use Rattle.encint.proofs.write.Statement.{statement}

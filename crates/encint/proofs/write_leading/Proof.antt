@@ -1,10 +1,5 @@
 -- `encint::write_leading` meets its contract. The loop's invariant: what is left to be written makes the whole.
-use mathlib.Core.Path.{_≡_, refl, _∙_}
-use mathlib.Core.List.{_++_}
-use Prim.Native.Nat.{_+_, _≤_}
-use native.Mathlib.Omega.{arith}
-use borrow.Author.Needs.{needs}
-use lib.ListN.{length, take, drop, length-set}
+use Rattle.fields.proofs.Base.{_≡_, refl, _∙_, _++_, _+_, _≤_, arith, needs, length, take, drop, length-set}
 use Rattle.encint.specs.Encint.{leading}
 use Rattle.encint.proofs.Writing.{leading-turn, leading-end}
 use Rattle.encint.proofs.write_leading.Statement.{statement}

@@ -1,9 +1,4 @@
-use borrow.Author.Needs.{needs}
-use borrow.Author.Tests.{le-ltb, lt-ltb}
-use mathlib.Core.Path.{_≡_, sym, _∙_}
-use native.Mathlib.Omega.{arith}
-use Prim.Native.Nat.{_+_}
-use denote.Ref.{now}
+use Rattle.fields.proofs.Base.{needs, le-ltb, lt-ltb, _≡_, sym, _∙_, arith, _+_, now}
 use Rattle.entries.specs.Entry.{nameAt, indexAt}
 use Rattle.encint.specs.Encint.{encintAt}
 use Rattle.encint.specs.declared.Number.the-variants.{Value}

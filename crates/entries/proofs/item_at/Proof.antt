@@ -1,4 +1,4 @@
-use borrow.Author.Needs.{needs}
+use Rattle.fields.proofs.Base.{needs}
 use Rattle.entries.specs.Entry.{itemAt}
 use Rattle.entries.proofs.item_at.Statement.{statement}
 use Rattle.entries.proofs.item_at.Tie as tie

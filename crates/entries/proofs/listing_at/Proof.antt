@@ -1,11 +1,4 @@
-use borrow.Author.Needs.{needs}
-use borrow.Author.Tests.{le-ltb, lt-ltb, le-leb, lt-leb}
-use mathlib.Core.Path.{_≡_, sym, _∙_}
-use mathlib.Core.Bool.{_&&_, _||_, cond}
-use native.Mathlib.Omega.{arith}
-use Prim.Native.Nat.{_+_}
-use lib.Dec.{leb, ltb}
-use denote.Ref.{now}
+use Rattle.fields.proofs.Base.{needs, le-ltb, lt-ltb, le-leb, lt-leb, _≡_, sym, _∙_, _&&_, _||_, cond, arith, _+_, leb, ltb, now}
 use Rattle.entries.specs.Entry.{nameAt, listingAt}
 use Rattle.encint.specs.Encint.{encintAt}
 use Rattle.encint.specs.declared.Number.the-variants.{Value}

@@ -1,10 +1,4 @@
-use borrow.Author.Needs.{needs}
-use borrow.Author.Tests.{le-ltb, lt-ltb, le-leb, lt-leb}
-use mathlib.Core.Path.{sym, _∙_}
-use native.Mathlib.Omega.{arith}
-use Prim.Native.Nat.{_+_}
-use lib.ListN.{length}
-use denote.Ref.{now}
+use Rattle.fields.proofs.Base.{needs, le-ltb, lt-ltb, le-leb, lt-leb, sym, _∙_, arith, _+_, length, now}
 use Rattle.entries.specs.Entry.{nameAt}
 use Rattle.encint.proofs.Reading.{encint-next}
 use Rattle.entries.proofs.name_at.Statement.{statement}

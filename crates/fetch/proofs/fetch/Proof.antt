@@ -1,6 +1,4 @@
-use mathlib.Core.Path.{sym, ap, _∙_}
-use denote.Ref.{now}
-use borrow.Author.Needs.{needs}
+use Rattle.fields.proofs.Base.{sym, ap, _∙_, now, needs}
 use Rattle.fields.proofs.Tests.{held, failed}
 use Rattle.book.proofs.Laws.{fits-told}
 use Rattle.lookup.specs.declared.Reply.the-variants.{Refused}

@@ -1,8 +1,4 @@
-use mathlib.Core.Path.{_≡_, refl, sym, ap, _∙_}
-use Prim.Native.Nat.{ℕ, _≤_}
-use native.Mathlib.Omega.{arith}
-use denote.Ref.{now}
-use borrow.Author.Needs.{needs}
+use Rattle.fields.proofs.Base.{_≡_, refl, sym, ap, _∙_, ℕ, _≤_, arith, now, needs}
 use Rattle.seek.specs.declared.CountedChild.{CountedChild}
 use Rattle.lookup.specs.Reply.{replyTo}
 use Rattle.fetch.specs.Fetch.{fetchAt}

@@ -1,6 +1,4 @@
-use mathlib.Core.Path.{sym, _∙_}
-use denote.Ref.{now}
-use borrow.Author.Needs.{needs}
+use Rattle.fields.proofs.Base.{sym, _∙_, now, needs}
 use Rattle.fetch.proofs.Steps.{leaf-found, leaf-absent}
 use Rattle.fetch.proofs.fetch_leaf.Statement.{statement}
 use Rattle.fetch.proofs.fetch_leaf.Tie as tie

@@ -1,7 +1,4 @@
-use mathlib.Core.Path.{sym}
-use Prim.Native.Nat.{_+_}
-use native.Mathlib.Omega.{arith}
-use borrow.Author.Needs.{needs}
+use Rattle.fields.proofs.Base.{sym, _+_, arith, needs}
 use Rattle.fields.proofs.Parts.{past}
 use Rattle.fields.proofs.byte.Statement.{statement}
 use Rattle.fields.proofs.byte.Tie as tie

@@ -1,9 +1,5 @@
 -- `fields::equal` meets its contract. The loop's invariant: what is left of both lists decides.
-use mathlib.Core.Path.{_≡_, refl, sym, _∙_}
-use Prim.Native.Nat.{_≤_, _-_}
-use native.Mathlib.Omega.{arith}
-use borrow.Author.Needs.{needs}
-use lib.ListN.{length, drop}
+use Rattle.fields.proofs.Base.{_≡_, refl, sym, _∙_, _≤_, _-_, arith, needs, length, drop}
 use Rattle.fields.specs.Same.{same}
 use Rattle.fields.proofs.Same.{same-longer, same-next, same-differ, same-end}
 use Rattle.fields.proofs.equal.Statement.{statement}

@@ -1,6 +1,4 @@
-use borrow.Author.Needs.{needs}
-use Prim.Native.Nat.{_+_}
-use native.Mathlib.Omega.{arith}
+use Rattle.fields.proofs.Base.{needs, _+_, arith}
 use Rattle.fields.specs.Le.{le}
 use Rattle.fields.proofs.le16.Statement.{statement}
 use Rattle.fields.proofs.le16.Tie as tie

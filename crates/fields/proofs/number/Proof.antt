@@ -1,8 +1,5 @@
 -- `fields::number` meets its contract. The loop's invariant: v is the number that the bytes from i on make.
-use mathlib.Core.Path.{_≡_, sym, _∙_}
-use Prim.Native.Nat.{_≤_, _<_, _-_, _+_, _^_}
-use native.Mathlib.Omega.{arith}
-use borrow.Author.Needs.{needs}
+use Rattle.fields.proofs.Base.{_≡_, sym, _∙_, _≤_, _<_, _-_, _+_, _^_, arith, needs}
 use Rattle.fields.specs.Le.{le}
 use Rattle.fields.proofs.Le.{le-below, le-lt, le-down, le-none, le-all}
 use Rattle.fields.proofs.number.Statement.{statement}

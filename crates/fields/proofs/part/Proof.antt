@@ -1,10 +1,5 @@
-use mathlib.Core.Path.{_≡_, sym, ap, _∙_}
-use mathlib.Core.Logic.{⊎-elim}
-use Prim.Native.Nat.{ℕ, _+_, _-_}
-use native.Mathlib.Omega.{arith}
-use lib.ListN.{take, drop}
+use Rattle.fields.proofs.Base.{_≡_, sym, ap, _∙_, ⊎-elim, ℕ, _+_, _-_, arith, take, drop, needs}
 use Rattle.fields.proofs.Parts.{part-inside, part-outside}
-use borrow.Author.Needs.{needs}
 use Rattle.fields.proofs.part.Statement.{statement}
 use Rattle.fields.proofs.part.Tie as tie
 

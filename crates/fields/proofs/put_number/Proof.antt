@@ -1,9 +1,7 @@
-use mathlib.Core.Path.{sym, _∙_}
-use native.Mathlib.Omega.{arith}
+use Rattle.fields.proofs.Base.{sym, _∙_, arith, needs}
 use Rattle.fields.specs.Le.{bytes}
 use Rattle.fields.proofs.Le.{length-bytes}
 use Rattle.fields.proofs.Put.{put-refused, put-done}
-use borrow.Author.Needs.{needs}
 use Rattle.fields.proofs.put_number.Statement.{statement}
 use Rattle.fields.proofs.put_number.Tie as tie
 

@@ -1,8 +1,5 @@
-use mathlib.Core.Path.{sym}
-use native.Mathlib.Nat.{add-sub-cancel-left}
-use native.Mathlib.Omega.{arith}
+use Rattle.fields.proofs.Base.{sym, add-sub-cancel-left, arith, needs}
 use Rattle.fields.proofs.Same.{stands-inside, stands-outside}
-use borrow.Author.Needs.{needs}
 use Rattle.fields.proofs.stands_at.Statement.{statement}
 use Rattle.fields.proofs.stands_at.Tie as tie
 

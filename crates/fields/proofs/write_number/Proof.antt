@@ -1,10 +1,6 @@
 -- `fields::write_number` meets its contract. The loop's invariant: what is left to be written makes the whole.
-use mathlib.Core.Path.{_≡_, refl}
-use Prim.Native.Nat.{_+_, _-_, _≤_}
-use native.Mathlib.Nat.{add-zero, sub-zero}
-use lib.ListN.{length, length-set}
-use lib.Seq.{sets}
-use borrow.Author.Needs.{needs}
+use Rattle.fields.proofs.Base.{_≡_, refl, _+_, _-_, _≤_, add-zero, length, length-set, sets, needs}
+use native.Mathlib.Nat.{sub-zero}
 use Rattle.fields.specs.Le.{bytes}
 use Rattle.fields.proofs.Le.{bytes-more, bytes-none}
 use Rattle.fields.proofs.Put.{sets-turn, sets-end}

@@ -1,5 +1,4 @@
-use borrow.Author.Needs.{needs}
-use mathlib.Core.Path.{sym, _∙_}
+use Rattle.fields.proofs.Base.{needs, sym, _∙_}
 use Rattle.file_header.proofs.are_apart.Statement.{statement}
 use Rattle.file_header.proofs.are_apart.Tie as tie
 

@@ -1,9 +1,4 @@
-use borrow.Author.Needs.{needs}
-use borrow.Author.Tests.{le-leb, lt-leb}
-use mathlib.Core.Path.{_≡_, sym, ap, _∙_}
-use mathlib.Core.Bool.{true}
-use native.Mathlib.Omega.{arith}
-use denote.Ref.{now}
+use Rattle.fields.proofs.Base.{needs, le-leb, lt-leb, _≡_, sym, ap, _∙_, true, arith, now}
 use Rattle.fields.proofs.Tests.{held, failed}
 use Rattle.file_header.specs.FileHeader.{longEnough, fileTagged, versionRight, sectionsRight, fileHeaderOf}
 use Rattle.file_header.specs.declared.CheckedFileHeader.the-variants.{Good}

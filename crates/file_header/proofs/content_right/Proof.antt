@@ -1,9 +1,4 @@
-use borrow.Author.Needs.{needs}
-use mathlib.Core.Path.{_≡_}
-use mathlib.Core.Bool.{_&&_}
-use Prim.Native.Nat.{_+_}
-use lib.Dec.{leb}
-use denote.Ref.{now}
+use Rattle.fields.proofs.Base.{needs, _≡_, _&&_, _+_, leb, now}
 use Rattle.fields.proofs.Tests.{held, failed}
 use Rattle.file_header.specs.FileHeader.{contentRight}
 use Rattle.file_header.proofs.content_right.Statement.{statement}

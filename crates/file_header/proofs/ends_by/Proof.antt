@@ -1,7 +1,4 @@
-use mathlib.Core.Path.{sym}
-use borrow.Author.Tests.{lt-leb}
-use Prim.Native.Nat.{_+_, _-_}
-use native.Mathlib.Omega.{arith}
+use Rattle.fields.proofs.Base.{sym, lt-leb, _+_, _-_, arith}
 use Rattle.fields.proofs.Tests.{leb-same}
 use Rattle.file_header.proofs.ends_by.Statement.{statement}
 use Rattle.file_header.proofs.ends_by.Tie as tie

@@ -1,4 +1,4 @@
-use borrow.Author.Needs.{needs}
+use Rattle.fields.proofs.Base.{needs}
 use Rattle.fields.proofs.Tests.{held, failed}
 use Rattle.file_header.specs.FileHeader.{fileTagged}
 use Rattle.file_header.proofs.file_tagged.Statement.{statement}

@@ -1,5 +1,4 @@
-use borrow.Author.Needs.{needs}
-use borrow.Author.Tests.{le-leb, lt-leb}
+use Rattle.fields.proofs.Base.{needs, le-leb, lt-leb}
 use Rattle.file_header.proofs.is_placed.Statement.{statement}
 use Rattle.file_header.proofs.is_placed.Tie as tie
 

@@ -1,7 +1,4 @@
-use borrow.Author.Needs.{needs}
-use mathlib.Core.Path.{_≡_}
-use mathlib.Core.Bool.{_&&_}
-use denote.Ref.{now}
+use Rattle.fields.proofs.Base.{needs, _≡_, _&&_, now}
 use Rattle.fields.proofs.Tests.{held, failed}
 use Rattle.file_header.specs.FileHeader.{placed, apart, placesRight}
 use Rattle.file_header.proofs.places_right.Statement.{statement}

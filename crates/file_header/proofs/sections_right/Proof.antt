@@ -1,6 +1,5 @@
-use borrow.Author.Needs.{needs}
+use Rattle.fields.proofs.Base.{needs, arith}
 use Rattle.fields.proofs.Tests.{held, failed}
-use native.Mathlib.Omega.{arith}
 use Rattle.file_header.specs.FileHeader.{sectionsRight}
 use Rattle.file_header.proofs.Rules.{places-told}
 use Rattle.file_header.proofs.sections_right.Statement.{statement}

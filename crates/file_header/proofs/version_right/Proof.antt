@@ -1,8 +1,5 @@
-use borrow.Author.Needs.{needs}
-use borrow.Author.Tests.{eq-eqb, ne-eqb}
+use Rattle.fields.proofs.Base.{needs, eq-eqb, ne-eqb, sym, arith}
 use mathlib.Core.Bool.{or-false}
-use mathlib.Core.Path.{sym}
-use native.Mathlib.Omega.{arith}
 use Rattle.file_header.specs.FileHeader.{versionRight}
 use Rattle.file_header.proofs.version_right.Statement.{statement}
 use Rattle.file_header.proofs.version_right.Tie as tie

@@ -1,5 +1,4 @@
-use borrow.Author.Needs.{needs}
-use borrow.Author.Tests.{lt-ltb, le-ltb}
+use Rattle.fields.proofs.Base.{needs, lt-ltb, le-ltb}
 use Rattle.frames.proofs.digit.Statement.{statement}
 use Rattle.frames.proofs.digit.Tie as tie
 

@@ -1,7 +1,4 @@
-use borrow.Author.Needs.{needs}
-use Prim.Native.Nat.{_-_}
-use native.Mathlib.Omega.{arith}
-use lib.ListN.{length, length-set}
+use Rattle.fields.proofs.Base.{needs, _-_, arith, length, length-set}
 use Rattle.frames.proofs.Hex.{Left, left-start, left-turn, left-end}
 use Rattle.frames.proofs.put_hex.Statement.{statement}
 use Rattle.frames.proofs.put_hex.Tie as tie

@@ -1,7 +1,4 @@
-use borrow.Author.Needs.{needs}
-use Prim.Native.Nat.{_-_, _≤_}
-use native.Mathlib.Omega.{arith}
-use lib.ListN.{length}
+use Rattle.fields.proofs.Base.{needs, _-_, _≤_, arith, length}
 use Rattle.frames.proofs.write_digits.Statement.{statement}
 use Rattle.frames.proofs.write_digits.Tie as tie
 

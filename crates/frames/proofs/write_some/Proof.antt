@@ -1,6 +1,4 @@
-use borrow.Author.Needs.{needs}
-use mathlib.Core.Path.{sym}
-use lib.Seq.{length-take-le}
+use Rattle.fields.proofs.Base.{needs, sym, length-take-le}
 use Rattle.frames.proofs.write_some.Statement.{statement}
 use Rattle.frames.proofs.write_some.Tie as tie
 

@@ -1,12 +1,6 @@
-use borrow.Author.Needs.{needs}
-use mathlib.Core.Path.{_≡_, refl, ap, _∙_}
-use Prim.Native.Nat.{ℕ, _-_, _*_, _/_, _≤_, _<_, min}
-use native.Mathlib.Nat.{le-div-iff-mul-le, div-le-self}
-use native.Mathlib.Omega.{arith}
-use lib.ListN.{length}
-use denote.Ref.{now}
+use Rattle.fields.proofs.Base.{needs, _≡_, refl, ap, _∙_, ℕ, _-_, _*_, _/_, _≤_, _<_, min, le-div-iff-mul-le, div-le-self, arith, length, now}
 use Rattle.names.specs.Names.{compared}
-use Rattle.chunk.specs.Chunk.{entryCount, spacingOf, countPlace}
+use Rattle.chunk_fields.specs.ChunkFields.{entryCount, spacingOf, countPlace}
 use Rattle.chunk.proofs.Quick.{capped}
 use Rattle.quickref.specs.Quickref.{groupAt}
 use Rattle.halving.specs.Halving.{groupAbove, halved, groupIn, sizeIn}

@@ -1,9 +1,4 @@
-use borrow.Author.Needs.{needs}
-use mathlib.Core.Path.{_≡_, refl, sym, ap, _∙_}
-use mathlib.Core.Bool.{Bool, true, false}
-use Prim.Native.Nat.{ℕ, _+_, _-_, _≤_, _<_}
-use native.Mathlib.Omega.{arith}
-use denote.Ref.{now}
+use Rattle.fields.proofs.Base.{needs, _≡_, refl, sym, ap, _∙_, Bool, true, false, ℕ, _+_, _-_, _≤_, _<_, arith, now}
 use Rattle.names.specs.Order.{isLess}
 use Rattle.names.specs.Names.{compared}
 use Rattle.halving.specs.Halving.{groupAbove, middle, halved}

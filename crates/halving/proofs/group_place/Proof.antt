@@ -1,9 +1,4 @@
-use borrow.Author.Needs.{needs}
-use borrow.Author.Tests.{eq-eqb, ne-eqb}
-use Prim.Native.Nat.{_+_, _<_}
-use native.Mathlib.Omega.{arith}
-use lib.ListN.{length, getD}
-use denote.Ref.{now}
+use Rattle.fields.proofs.Base.{needs, eq-eqb, ne-eqb, _+_, _<_, arith, length, getD, now}
 use Rattle.fields.specs.Le.{le}
 use Rattle.chunk.proofs.Frame.{head-small}
 use Rattle.quickref.specs.Quickref.{groupAt}

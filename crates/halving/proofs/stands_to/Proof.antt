@@ -1,10 +1,4 @@
-use borrow.Author.Needs.{needs}
-use mathlib.Core.Path.{_≡_, sym, ap, _∙_}
-use Prim.Native.Nat.{_+_, _≤_}
-use native.Mathlib.Nat.{add-sub-cancel-left}
-use native.Mathlib.Omega.{arith}
-use lib.ListN.{length}
-use denote.Ref.{now}
+use Rattle.fields.proofs.Base.{needs, _≡_, sym, ap, _∙_, _+_, _≤_, add-sub-cancel-left, arith, length, now}
 use Rattle.names.specs.Order.{isLess}
 use Rattle.names.specs.Names.{below}
 use Rattle.encint.specs.declared.Number.the-variants.{Value}

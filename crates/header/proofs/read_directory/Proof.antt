@@ -1,8 +1,4 @@
-use borrow.Author.Needs.{needs}
-use mathlib.Core.Path.{_≡_, sym, ap, _∙_}
-use mathlib.Core.List.{List}
-use Prim.Native.Nat.{ℕ}
-use denote.Ref.{now}
+use Rattle.fields.proofs.Base.{needs, _≡_, sym, ap, _∙_, List, ℕ, now}
 use Rattle.directory_header.specs.DirectoryHeader.{directoryHeaderOf}
 use Rattle.directory_header.specs.declared.CheckedDirectoryHeader.{CheckedDirectoryHeader}
 use Rattle.header.specs.Header.{afterDirectory, directoryThen}

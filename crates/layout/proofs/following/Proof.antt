@@ -1,7 +1,4 @@
-use Prim.Native.Nat.{_+_}
-use native.Mathlib.Omega.{arith}
-use borrow.Author.Needs.{needs}
-use borrow.Author.Tests.{lt-ltb, le-ltb}
+use Rattle.fields.proofs.Base.{_+_, arith, needs, lt-ltb, le-ltb}
 use Rattle.layout.specs.Layout.{newNext}
 use Rattle.layout.proofs.following.Statement.{statement}
 use Rattle.layout.proofs.following.Tie as tie

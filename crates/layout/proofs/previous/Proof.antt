@@ -1,5 +1,4 @@
-use borrow.Author.Needs.{needs}
-use borrow.Author.Tests.{eq-eqb, ne-eqb}
+use Rattle.fields.proofs.Base.{needs, eq-eqb, ne-eqb}
 use Rattle.layout.specs.Layout.{newPrevious}
 use Rattle.layout.proofs.previous.Statement.{statement}
 use Rattle.layout.proofs.previous.Tie as tie

@@ -1,6 +1,4 @@
-use native.Mathlib.Omega.{arith}
-use borrow.Author.Needs.{needs}
-use borrow.Author.Tests.{eq-eqb, ne-eqb}
+use Rattle.fields.proofs.Base.{arith, needs, eq-eqb, ne-eqb}
 use Rattle.layout.specs.Layout.{newRoot}
 use Rattle.layout.proofs.root_chunk.Statement.{statement}
 use Rattle.layout.proofs.root_chunk.Tie as tie

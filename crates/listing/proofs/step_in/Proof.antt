@@ -1,10 +1,6 @@
-use borrow.Author.Needs.{needs}
-use mathlib.Core.Path.{_≡_, sym, ap, ap₂, _∙_}
-use Prim.Native.Nat.{_+_}
-use native.Mathlib.Omega.{arith}
-use denote.Ref.{now}
+use Rattle.fields.proofs.Base.{needs, _≡_, sym, ap, ap₂, _∙_, _+_, arith, now}
 use Rattle.entries.specs.declared.Kind.the-variants.{Listing}
-use Rattle.chunk.specs.Chunk.{entryCount}
+use Rattle.chunk_fields.specs.ChunkFields.{entryCount}
 use Rattle.quickref.specs.Quickref.{nthIn}
 use Rattle.quickref.specs.declared.Hit.the-variants.{At}
 use Rattle.book.specs.Book.{limitsOf, chunkBytes}

@@ -1,11 +1,5 @@
 -- The proof of `descend`, which calls itself: the measure is the level.
-use mathlib.Core.Path.{_≡_, refl, sym, ap, _∙_}
-use mathlib.Core.Bool.{Bool, cond}
-use Prim.Native.Nat.{ℕ, _+_, _<_}
-use native.Mathlib.Omega.{arith}
-use lib.ListN.{set}
-use denote.Ref.{now}
-use borrow.Author.Needs.{needs}
+use Rattle.fields.proofs.Base.{_≡_, refl, sym, ap, _∙_, Bool, cond, ℕ, _+_, _<_, arith, set, now, needs}
 use borrow.Fn.Kinds.{In}
 use borrow.Fn.PlainCycle.{Measures, is, falls, and}
 use Rattle.search.specs.Search.{costAt}

@@ -1,7 +1,4 @@
-use mathlib.Core.Path.{_≡_, sym, _∙_}
-use mathlib.Core.Bool.{true}
-use denote.Ref.{now}
-use borrow.Author.Needs.{needs}
+use Rattle.fields.proofs.Base.{_≡_, sym, _∙_, true, now, needs}
 use Rattle.tree.specs.Shape.{indexChunk}
 use Rattle.book.specs.Book.{directoryOf, shapeOf}
 use Rattle.book.proofs.Checked.{checked-index, checked-no-index}

@@ -1,8 +1,4 @@
-use mathlib.Core.Path.{_≡_, sym, ap, _∙_}
-use Prim.Native.Nat.{_+_}
-use native.Mathlib.Omega.{arith}
-use denote.Ref.{now}
-use borrow.Author.Needs.{needs}
+use Rattle.fields.proofs.Base.{_≡_, sym, ap, _∙_, _+_, arith, now, needs}
 use Rattle.search.specs.Search.{costAt}
 use Rattle.search.specs.declared.Search.{Search}
 use Rattle.lookup.specs.Lookup.{answerOf}

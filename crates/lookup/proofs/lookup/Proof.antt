@@ -1,7 +1,4 @@
-use mathlib.Core.Path.{ap}
-use native.Mathlib.Omega.{arith}
-use denote.Ref.{now}
-use borrow.Author.Needs.{needs}
+use Rattle.fields.proofs.Base.{ap, arith, now, needs}
 use Rattle.fields.proofs.Tests.{held, failed}
 use Rattle.book.proofs.Laws.{fits-told}
 use Rattle.lookup.specs.declared.Answer.the-variants.{Refused}

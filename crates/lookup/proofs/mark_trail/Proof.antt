@@ -1,5 +1,4 @@
-use mathlib.Core.Path.{refl}
-use borrow.Author.Needs.{needs}
+use Rattle.fields.proofs.Base.{refl, needs}
 use Rattle.lookup.proofs.mark_trail.Statement.{statement}
 use Rattle.lookup.proofs.mark_trail.Tie as tie
 

@@ -1,8 +1,5 @@
 -- `compare` meets its contract. The loop's invariant: what is left of the two names compares as the whole names do.
-use mathlib.Core.Path.{_≡_, refl, sym, _∙_}
-use Prim.Native.Nat.{_+_, _-_, _≤_}
-use native.Mathlib.Omega.{arith}
-use lib.ListN.{drop}
+use Rattle.fields.proofs.Base.{_≡_, refl, sym, _∙_, _+_, _-_, _≤_, arith, drop}
 use Rattle.names.specs.Names.{compared}
 use Rattle.names.specs.declared.Order.the-variants.{Less, Equal, Greater}
 use Rattle.names.proofs.Alikes.{alike-compares}

@@ -1,7 +1,5 @@
 -- `fold` meets its contract: each way out settles the two tests of the definition.
-use native.Mathlib.Omega.{arith}
-use borrow.Author.Needs.{needs}
-use borrow.Author.Tests.{le-leb, lt-leb}
+use Rattle.fields.proofs.Base.{arith, needs, le-leb, lt-leb}
 use Rattle.names.specs.Names.{folded}
 use Rattle.names.proofs.fold.Statement.{statement}
 use Rattle.names.proofs.fold.Tie as tie

@@ -1,8 +1,4 @@
-use mathlib.Core.Path.{refl}
-use native.Mathlib.Omega.{arith}
-use lib.ListN.{length}
-use denote.Ref.{now}
-use borrow.Author.Tests.{le-leb, lt-leb}
+use Rattle.fields.proofs.Base.{refl, arith, length, now, le-leb, lt-leb}
 use Rattle.names.proofs.is_askable.Statement.{statement}
 use Rattle.names.proofs.is_askable.Tie as tie
 

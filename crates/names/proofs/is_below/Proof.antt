@@ -1,6 +1,5 @@
 -- `is_below` meets its contract: in each arm the test of the answer is the test of that arm.
-use mathlib.Core.Path.{sym, ap, _∙_}
-use borrow.Author.Needs.{needs}
+use Rattle.fields.proofs.Base.{sym, ap, _∙_, needs}
 use Rattle.names.specs.Order.{isLess}
 use Rattle.names.specs.Names.{below}
 use Rattle.names.proofs.is_below.Statement.{statement}

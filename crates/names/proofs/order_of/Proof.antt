@@ -1,5 +1,4 @@
-use borrow.Author.Needs.{needs}
-use mathlib.Core.Path.{ap, _∙_}
+use Rattle.fields.proofs.Base.{needs, ap, _∙_}
 use Rattle.names.specs.Names.{orderCode}
 use Rattle.names.proofs.order_of.Statement.{statement}
 use Rattle.names.proofs.order_of.Tie as tie

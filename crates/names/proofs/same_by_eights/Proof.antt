@@ -1,6 +1,4 @@
-use mathlib.Core.Path.{_≡_}
-use Prim.Native.Nat.{_+_, _-_}
-use native.Mathlib.Omega.{arith}
+use Rattle.fields.proofs.Base.{_≡_, _+_, _-_, arith}
 use Rattle.fields.specs.Le.{le}
 use Rattle.names.specs.Alike.{Reached}
 use Rattle.names.proofs.Alikes.{alike-none, alike-number, reached-more}

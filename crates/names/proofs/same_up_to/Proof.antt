@@ -1,6 +1,4 @@
-use mathlib.Core.Path.{_≡_, refl}
-use Prim.Native.Nat.{_+_, _-_}
-use native.Mathlib.Omega.{arith}
+use Rattle.fields.proofs.Base.{_≡_, refl, _+_, _-_, arith}
 use Rattle.names.specs.Alike.{Reached}
 use Rattle.names.proofs.Alikes.{alike-none, alike-byte, reached-more}
 use Rattle.names.proofs.same_up_to.Statement.{statement}

@@ -1,5 +1,4 @@
-use borrow.Author.Needs.{needs}
-use mathlib.Core.Path.{refl}
+use Rattle.fields.proofs.Base.{needs, refl}
 use Rattle.numbers.specs.Numbers.{recordIn}
 use Rattle.numbers.proofs.record_in.Statement.{statement}
 use Rattle.numbers.proofs.record_in.Tie as tie

@@ -1,11 +1,9 @@
-use borrow.Author.Needs.{needs}
-use Prim.Native.Nat.{ℕ, _-_, _<_}
-use mathlib.Core.Path.{_≡_, sym, ap, subst, _∙_, subst₂}
-use mathlib.Core.List.{List}
-use native.Mathlib.Omega.{arith}
-use denote.Ref.{now}
+use Rattle.fields.proofs.Base.{needs, ℕ, _-_, _<_, _≡_, sym, ap, subst, _∙_, List, arith, now}
+use mathlib.Core.Path.{subst₂}
 use Rattle.fields.proofs.Tests.{held, failed}
-use Rattle.chunk.specs.Chunk.{Entry, entryCount, entriesIn}
+use Rattle.entries.specs.Entry.{Entry}
+use Rattle.chunk.specs.Chunk.{entriesIn}
+use Rattle.chunk_fields.specs.ChunkFields.{entryCount}
 use Rattle.tree.specs.Walk.{visit, intoChild, walkTree}
 use Rattle.tree.proofs.Steps.{walk-none, leaf-other, index-none, index-not, index-enter}
 use Rattle.book.specs.Book.{chunkBytes, directoryOf, shapeOf}
@@ -21,8 +19,8 @@ use Rattle.book.proofs.chunk_bytes.Reads as chunk-bytes-reads
 use Rattle.opening.proofs.named_child.Reads as child-at-reads
 use Rattle.opening.proofs.is_index.Reads as is-index-reads
 use Rattle.opening.proofs.leaf.Reads as leaf-reads
-use Rattle.chunk.proofs.first_place.Reads as first-place-reads
-use Rattle.chunk.proofs.entry_count.Reads as entry-count-reads
+use Rattle.chunk_fields.proofs.first_place.Reads as first-place-reads
+use Rattle.chunk_fields.proofs.entry_count.Reads as entry-count-reads
 use Rattle.opening.proofs.+walk_tree.{statement}
 use Rattle.opening.proofs.+walk_tree.Tie.{close}
 

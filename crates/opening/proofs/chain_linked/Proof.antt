@@ -1,9 +1,4 @@
-use borrow.Author.Needs.{needs}
-use borrow.Author.Tests.{eq-eqb, ne-eqb}
-use mathlib.Core.Path.{_≡_, sym, ap, _∙_}
-use native.Mathlib.Omega.{arith}
-use Prim.Native.Nat.{_-_}
-use denote.Ref.{now}
+use Rattle.fields.proofs.Base.{needs, eq-eqb, ne-eqb, _≡_, sym, ap, _∙_, arith, _-_, now}
 use Rattle.refusals.specs.Refusals.{noChunk}
 use Rattle.tree.specs.Walk.{chainRun}
 use Rattle.tree.proofs.Steps.{run-none}

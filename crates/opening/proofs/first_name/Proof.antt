@@ -1,10 +1,4 @@
-use borrow.Author.Needs.{needs}
-use mathlib.Core.Path.{subst}
-use native.Mathlib.Nat.{add-sub-cancel-left}
-use native.Mathlib.Omega.{arith}
-use Prim.Native.Nat.{_+_, _≤_}
-use lib.ListN.{length}
-use denote.Ref.{now}
+use Rattle.fields.proofs.Base.{needs, subst, add-sub-cancel-left, arith, _+_, _≤_, length, now}
 use Rattle.quickref.specs.declared.Hit.the-variants.{At}
 use Rattle.opening.specs.Passes.{FirstHit}
 use Rattle.opening.proofs.first_name.Statement.{statement}

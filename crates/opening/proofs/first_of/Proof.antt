@@ -1,5 +1,4 @@
-use borrow.Author.Needs.{needs}
-use denote.Ref.{now}
+use Rattle.fields.proofs.Base.{needs, now}
 use Rattle.opening.proofs.Firsts.{first-of-good}
 use Rattle.opening.proofs.first_of.Statement.{statement}
 use Rattle.opening.proofs.first_of.Tie as tie

@@ -1,5 +1,4 @@
-use borrow.Author.Needs.{needs}
-use denote.Ref.{now}
+use Rattle.fields.proofs.Base.{needs, now}
 use Rattle.fields.proofs.Tests.{held, failed}
 use Rattle.tree.proofs.Chunks.{listing-chunk}
 use Rattle.book.specs.Book.{directoryOf, shapeOf}

@@ -1,11 +1,6 @@
-use borrow.Author.Needs.{needs}
-use borrow.Author.Tests.{eq-eqb, ne-eqb}
-use mathlib.Core.Path.{_≡_, sym, _∙_}
-use mathlib.Core.Bool.{true, false}
-use lib.Dec.{eqb}
-use denote.Ref.{now}
+use Rattle.fields.proofs.Base.{needs, eq-eqb, ne-eqb, _≡_, sym, _∙_, true, false, eqb, now}
 use Rattle.fields.proofs.Tests.{held, failed}
-use Rattle.chunk.specs.Chunk.{previousLink, nextLink}
+use Rattle.chunk_fields.specs.ChunkFields.{previousLink, nextLink}
 use Rattle.refusals.specs.Refusals.{noChunk}
 use Rattle.tree.specs.Shape.{previousOf, nextOf, listingChunk}
 use Rattle.tree.proofs.Chunks.{listing-chunk}

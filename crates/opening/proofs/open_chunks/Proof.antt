@@ -1,8 +1,4 @@
-use borrow.Author.Needs.{needs}
-use mathlib.Core.Path.{_≡_, refl, sym, ap, _∙_}
-use native.Mathlib.Omega.{arith}
-use Prim.Native.Nat.{_+_}
-use denote.Ref.{now}
+use Rattle.fields.proofs.Base.{needs, _≡_, refl, sym, ap, _∙_, arith, _+_, now}
 use Rattle.book.specs.Book.{directoryOf}
 use Rattle.opening.specs.Opened.{linkedBook}
 use Rattle.opening.specs.declared.Opened.the-variants.{Refused}

@@ -1,7 +1,4 @@
-use borrow.Author.Needs.{needs}
-use mathlib.Core.Path.{_≡_, ap}
-use native.Mathlib.Omega.{arith}
-use denote.Ref.{now}
+use Rattle.fields.proofs.Base.{needs, _≡_, ap, arith, now}
 use Rattle.fields.proofs.Tests.{held, failed}
 use Rattle.tree.specs.Walk.{chainRunOk, treeWalkOk}
 use Rattle.book.specs.Book.{directoryOf, shapeOf}

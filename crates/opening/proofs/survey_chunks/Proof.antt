@@ -1,9 +1,5 @@
-use borrow.Author.Needs.{needs}
-use mathlib.Core.Path.{_≡_, refl, sym, _∙_}
+use Rattle.fields.proofs.Base.{needs, _≡_, refl, sym, _∙_, arith, _+_, _-_, _≤_, now}
 use native.Mathlib.Nat.{sub-zero}
-use native.Mathlib.Omega.{arith}
-use Prim.Native.Nat.{_+_, _-_, _≤_}
-use denote.Ref.{now}
 use Rattle.chunk.specs.Answer.{chunkOf}
 use Rattle.book.specs.Book.{directoryOf}
 use Rattle.opening.specs.Passes.{surveyed}

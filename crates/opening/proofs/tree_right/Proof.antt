@@ -1,7 +1,4 @@
-use borrow.Author.Needs.{needs}
-use borrow.Author.Tests.{eq-eqb, ne-eqb}
-use mathlib.Core.Path.{_≡_, sym, _∙_}
-use denote.Ref.{now}
+use Rattle.fields.proofs.Base.{needs, eq-eqb, ne-eqb, _≡_, sym, _∙_, now}
 use Rattle.refusals.specs.Refusals.{noChunk}
 use Rattle.tree.specs.Tree.{top}
 use Rattle.tree.specs.Walk.{walkTree}

@@ -1,9 +1,5 @@
 -- `pack::fill` meets its contract. The loop's invariant: what is taken, with what is yet to be taken, is the whole.
-use mathlib.Core.Path.{_≡_, refl, sym, _∙_}
-use Prim.Native.Nat.{_≤_}
-use native.Mathlib.Omega.{arith}
-use borrow.Author.Needs.{needs}
-use denote.Ref.{now}
+use Rattle.fields.proofs.Base.{_≡_, refl, sym, _∙_, _≤_, arith, needs, now}
 use Rattle.source.specs.Source.{rowsFrom}
 use Rattle.pack.specs.Fill.{extentFrom}
 use Rattle.pack.proofs.Filling.{Fitted, fitted, full}

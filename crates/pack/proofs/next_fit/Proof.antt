@@ -1,8 +1,4 @@
-use mathlib.Core.Path.{_≡_, sym, _∙_}
-use Prim.Native.Nat.{_≤_}
-use native.Mathlib.Omega.{arith}
-use borrow.Author.Needs.{needs}
-use denote.Ref.{now}
+use Rattle.fields.proofs.Base.{_≡_, sym, _∙_, _≤_, arith, needs, now}
 use Rattle.source.specs.Source.{itemFrom}
 use Rattle.source.proofs.Rows.{Stepped, taken-entry, run-end, row-of}
 use Rattle.pack.specs.Fill.{rowSize}

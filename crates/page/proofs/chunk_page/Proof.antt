@@ -1,10 +1,6 @@
-use borrow.Author.Needs.{needs}
-use mathlib.Core.Path.{_≡_, sym, ap, _∙_}
-use mathlib.Core.Bool.{true}
-use native.Mathlib.Omega.{arith}
-use denote.Ref.{now}
+use Rattle.fields.proofs.Base.{needs, _≡_, sym, ap, _∙_, true, arith, now}
 use Rattle.fields.proofs.Tests.{held, failed}
-use Rattle.chunk.specs.Chunk.{entryCount}
+use Rattle.chunk_fields.specs.ChunkFields.{entryCount}
 use Rattle.book.specs.Book.{chunkBytes, recordFits}
 use Rattle.page.specs.declared.Page.the-variants.{Refused}
 use Rattle.book.proofs.Checked.{Linked, checked-listing, checked-index, checked-refused}

@@ -1,6 +1,4 @@
-use borrow.Author.Needs.{needs}
-use lib.ListN.{length-set}
-use denote.Ref.{now}
+use Rattle.fields.proofs.Base.{needs, length-set, now}
 use Rattle.page.proofs.Writing.{five-stores}
 use Rattle.page.proofs.put_report.Statement.{statement}
 use Rattle.page.proofs.put_report.Tie as tie

@@ -1,13 +1,8 @@
-use borrow.Author.Needs.{needs}
-use mathlib.Core.Path.{_≡_, sym, ap, _∙_}
-use Prim.Native.Nat.{_-_, _*_}
-use native.Mathlib.Omega.{arith}
-use denote.Ref.{now}
-use lib.Seq.{sets}
+use Rattle.fields.proofs.Base.{needs, _≡_, sym, ap, _∙_, _-_, _*_, arith, now, sets}
 use Rattle.entries.specs.Entry.{itemAt}
 use Rattle.entries.specs.declared.Item.the-variants.{Good}
 use Rattle.entries.specs.declared.Kind.the-variants.{Listing}
-use Rattle.chunk.specs.Chunk.{entryCount}
+use Rattle.chunk_fields.specs.ChunkFields.{entryCount}
 use Rattle.book.specs.Book.{limitsOf, chunkBytes}
 use Rattle.page.specs.Page.{fiveOf}
 use Rattle.page.proofs.Writing.{Left, left-start, left-there, left-turn, left-end}

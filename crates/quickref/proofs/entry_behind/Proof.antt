@@ -1,7 +1,4 @@
-use borrow.Author.Needs.{needs}
-use mathlib.Core.Path.{_≡_, refl, sym, _∙_}
-use native.Mathlib.Omega.{arith}
-use denote.Ref.{now}
+use Rattle.fields.proofs.Base.{needs, _≡_, refl, sym, _∙_, arith, now}
 use Rattle.quickref.specs.Quickref.{afterAt}
 use Rattle.quickref.proofs.Steps.{after-bad, after-on, after-here}
 use Rattle.quickref.proofs.entry_behind.Statement.{statement}

@@ -1,6 +1,4 @@
-use borrow.Author.Needs.{needs}
-use borrow.Author.Tests.{eq-eqb, ne-eqb}
-use native.Mathlib.Omega.{arith}
+use Rattle.fields.proofs.Base.{needs, eq-eqb, ne-eqb, arith}
 use Rattle.chunk.proofs.Frame.{head-small}
 use Rattle.quickref.specs.Quickref.{groupAt}
 use Rattle.quickref.proofs.group_at.Statement.{statement}

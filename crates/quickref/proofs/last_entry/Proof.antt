@@ -1,7 +1,4 @@
-use borrow.Author.Needs.{needs}
-use borrow.Author.Tests.{le-ltb}
-use native.Mathlib.Omega.{arith}
-use Prim.Native.Nat.{_-_}
+use Rattle.fields.proofs.Base.{needs, le-ltb, arith, _-_}
 use Rattle.quickref.specs.Quickref.{nthIn}
 use Rattle.quickref.proofs.last_entry.Statement.{statement}
 use Rattle.quickref.proofs.last_entry.Tie as tie

@@ -1,6 +1,4 @@
-use borrow.Author.Needs.{needs}
-use borrow.Author.Tests.{lt-ltb, le-ltb}
-use native.Mathlib.Omega.{arith}
+use Rattle.fields.proofs.Base.{needs, lt-ltb, le-ltb, arith}
 use Rattle.chunk.proofs.Quick.{capped}
 use Rattle.quickref.specs.Quickref.{nthIn}
 use Rattle.quickref.proofs.nth_entry.Statement.{statement}

@@ -1,7 +1,4 @@
-use borrow.Author.Needs.{needs}
-use borrow.Author.Tests.{le-leb, lt-leb}
-use Prim.Native.Nat.{_+_}
-use native.Mathlib.Omega.{arith}
+use Rattle.fields.proofs.Base.{needs, le-leb, lt-leb, _+_, arith}
 use Rattle.book.specs.Book.{chunkPlace}
 use Rattle.report.proofs.place_in.Statement.{statement}
 use Rattle.report.proofs.place_in.Tie as tie

@@ -1,7 +1,4 @@
-use mathlib.Core.Path.{_≡_, sym, ap, _∙_}
-use mathlib.Core.Bool.{true}
-use denote.Ref.{now}
-use borrow.Author.Needs.{needs}
+use Rattle.fields.proofs.Base.{_≡_, sym, ap, _∙_, true, now, needs}
 use Rattle.fields.proofs.Tests.{held, failed}
 use Rattle.names.specs.Names.{askable}
 use Rattle.lookup.specs.declared.Reply.the-variants.{Refused}

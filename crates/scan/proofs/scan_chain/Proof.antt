@@ -1,7 +1,4 @@
-use mathlib.Core.Path.{_≡_, sym, ap, _∙_}
-use native.Mathlib.Omega.{arith}
-use denote.Ref.{now}
-use borrow.Author.Needs.{needs}
+use Rattle.fields.proofs.Base.{_≡_, sym, ap, _∙_, arith, now, needs}
 use Rattle.lookup.specs.Reply.{replyTo}
 use Rattle.lookup.specs.declared.Reply.the-variants.{Refused}
 use Rattle.scan.specs.Scan.{plainIn}

@@ -1,4 +1,4 @@
-use borrow.Author.Needs.{needs}
+use Rattle.fields.proofs.Base.{needs}
 use Rattle.search.specs.Search.{childIn}
 use Rattle.search.proofs.child_in.Statement.{statement}
 use Rattle.search.proofs.child_in.Tie as tie

@@ -1,6 +1,4 @@
-use mathlib.Core.Path.{_≡_, sym, ap, ap₂, _∙_}
-use denote.Ref.{now}
-use borrow.Author.Needs.{needs}
+use Rattle.fields.proofs.Base.{_≡_, sym, ap, ap₂, _∙_, now, needs}
 use Rattle.names.specs.Names.{compared}
 use Rattle.entries.specs.declared.Kind.the-variants.{Listing}
 use Rattle.quickref.specs.declared.Hit.{Hit}

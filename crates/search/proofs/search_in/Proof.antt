@@ -1,6 +1,4 @@
-use mathlib.Core.Path.{sym, _∙_}
-use denote.Ref.{now}
-use borrow.Author.Needs.{needs}
+use Rattle.fields.proofs.Base.{sym, _∙_, now, needs}
 use Rattle.book.proofs.Checked.{Linked, checked-listing, checked-no-listing}
 use Rattle.search.proofs.Searching.{search-found, search-next, search-barred}
 use Rattle.search.proofs.search_in.Statement.{statement}

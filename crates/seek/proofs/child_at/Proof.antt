@@ -1,5 +1,4 @@
-use borrow.Author.Needs.{needs}
-use mathlib.Core.Path.{sym, ap, _∙_}
+use Rattle.fields.proofs.Base.{needs, sym, ap, _∙_}
 use Rattle.entries.specs.Entry.{withItem}
 use Rattle.seek.specs.declared.Child.the-variants.{Below}
 use Rattle.seek.proofs.child_at.Statement.{statement}

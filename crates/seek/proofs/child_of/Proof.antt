@@ -1,6 +1,4 @@
-use borrow.Author.Needs.{needs}
-use mathlib.Core.Path.{ap}
-use Prim.Native.Nat.{ℕ}
+use Rattle.fields.proofs.Base.{needs, ap, ℕ}
 use Rattle.seek.proofs.child_of.Statement.{statement}
 use Rattle.seek.proofs.child_of.Tie as tie
 

@@ -1,10 +1,4 @@
-use borrow.Author.Needs.{needs}
-use mathlib.Core.Path.{_≡_, refl, sym, ap, ap₂, _∙_}
-use Prim.Native.Nat.{ℕ, _+_, _-_, _≤_, _<_}
-use native.Mathlib.Nat.{add-sub-cancel-left}
-use native.Mathlib.Omega.{arith}
-use lib.ListN.{length}
-use denote.Ref.{now}
+use Rattle.fields.proofs.Base.{needs, _≡_, refl, sym, ap, ap₂, _∙_, ℕ, _+_, _-_, _≤_, _<_, add-sub-cancel-left, arith, length, now}
 use Rattle.fields.specs.Part.{part}
 use Rattle.fields.proofs.Le.{le-lt}
 use Rattle.names.specs.Names.{compared}
@@ -14,7 +8,7 @@ use Rattle.entries.specs.Entry.{nameAt, indexAt, itemAt, withItem}
 use Rattle.entries.specs.declared.Item.the-variants.{Good, Bad}
 use Rattle.entries.proofs.Laws.{name-next, index-broken, index-wide, index-whole}
 use Rattle.entries.specs.declared.Kind.the-variants.{Index}
-use Rattle.chunk.specs.Chunk.{countPlace}
+use Rattle.chunk_fields.specs.ChunkFields.{countPlace}
 use Rattle.quickref.specs.Quickref.{groupAt}
 use Rattle.quickref.specs.declared.Hit.{Hit}
 use Rattle.quickref.specs.declared.Hit.the-variants.{At, Nothing}

@@ -1,8 +1,6 @@
-use mathlib.Core.Path.{_∙_}
-use native.Mathlib.Omega.{arith}
+use Rattle.fields.proofs.Base.{_∙_, arith, needs}
 use Rattle.source.specs.Source.{itemFrom}
 use Rattle.source.proofs.Rows.{taken-spent, taken-some}
-use borrow.Author.Needs.{needs}
 use Rattle.source.proofs.step.Statement.{statement}
 use Rattle.source.proofs.step.Tie as tie
 

@@ -1,11 +1,6 @@
-use borrow.Author.Needs.{needs}
-use mathlib.Core.Path.{_≡_, sym, ap, ap₂, _∙_}
-use mathlib.Core.Bool.{false}
-use Prim.Native.Nat.{ℕ, _-_}
-use native.Mathlib.Omega.{arith}
-use denote.Ref.{now}
+use Rattle.fields.proofs.Base.{needs, _≡_, sym, ap, ap₂, _∙_, false, ℕ, _-_, arith, now}
 use Rattle.entries.specs.declared.Kind.{Kind}
-use Rattle.chunk.specs.Chunk.{firstPlace, entryCount}
+use Rattle.chunk_fields.specs.ChunkFields.{firstPlace, entryCount}
 use Rattle.chunk.specs.declared.Chunk.the-variants.{Listing}
 use Rattle.book.specs.Book.{chunkBytes, checkedChunk}
 use Rattle.book.proofs.Checked.{checked-listing, checked-index, checked-refused}

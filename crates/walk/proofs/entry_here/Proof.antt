@@ -1,6 +1,4 @@
-use borrow.Author.Needs.{needs}
-use mathlib.Core.Path.{_≡_, sym, ap, _∙_}
-use denote.Ref.{now}
+use Rattle.fields.proofs.Base.{needs, _≡_, sym, ap, _∙_, now}
 use Rattle.entries.specs.Entry.{itemAt}
 use Rattle.entries.specs.declared.Kind.the-variants.{Listing}
 use Rattle.book.specs.Book.{limitsOf, chunkBytes}

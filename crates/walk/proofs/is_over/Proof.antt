@@ -1,7 +1,4 @@
-use borrow.Author.Needs.{needs}
-use borrow.Author.Tests.{eq-eqb, ne-eqb}
-use mathlib.Core.Path.{refl}
-use native.Mathlib.Omega.{arith}
+use Rattle.fields.proofs.Base.{needs, eq-eqb, ne-eqb, refl, arith}
 use Rattle.refusals.specs.Refusals.{noChunk}
 use Rattle.walk.specs.Walk.{isOver}
 use Rattle.walk.proofs.is_over.Statement.{statement}

@@ -1,10 +1,8 @@
-use mathlib.Core.Path.{refl, sym}
-use native.Mathlib.Omega.{arith}
+use Rattle.fields.proofs.Base.{refl, sym, arith, needs}
 use lib.Seq.{set-out}
 use Rattle.entries.specs.declared.Kind.the-variants.{Listing}
 use Rattle.pack.proofs.Sizes.{row-short}
 use Rattle.writer.proofs.Listings.{added-here, added-next}
-use borrow.Author.Needs.{needs}
 use Rattle.writer.proofs.add.Statement.{statement}
 use Rattle.writer.proofs.add.Tie as tie
 

@@ -1,7 +1,5 @@
-use mathlib.Core.Path.{_∙_}
-use native.Mathlib.Omega.{arith}
+use Rattle.fields.proofs.Base.{_∙_, arith, needs}
 use Rattle.source.proofs.Rows.{taken-spent, taken-some}
-use borrow.Author.Needs.{needs}
 use Rattle.writer.proofs.given_at.Statement.{statement}
 use Rattle.writer.proofs.given_at.Tie as tie
 

@@ -1,6 +1,4 @@
-use Prim.Native.Nat.{_^_}
-use native.Mathlib.Omega.{arith}
-use borrow.Author.Tests.{lt-ltb, le-ltb, le-leb, lt-leb}
+use Rattle.fields.proofs.Base.{_^_, arith, lt-ltb, le-ltb, le-leb, lt-leb}
 use Rattle.writer.specs.Plan.{inBounds}
 use Rattle.writer.proofs.is_taken.Statement.{statement}
 use Rattle.writer.proofs.is_taken.Tie as tie

@@ -1,15 +1,10 @@
-use mathlib.Core.Path.{_≡_, sym, _∙_}
-use mathlib.Core.Bool.{true}
-use Prim.Native.Nat.{_-_}
-use native.Mathlib.Omega.{arith}
-use denote.Ref.{now}
+use Rattle.fields.proofs.Base.{_≡_, sym, _∙_, true, _-_, arith, now, needs}
 use Rattle.entries.specs.declared.Kind.the-variants.{Listing}
 use Rattle.source.specs.Input.{given, inputRight}
 use Rattle.pack.specs.Levels.{level}
 use Rattle.pack.proofs.Levels.{chunks-given}
 use Rattle.writer.specs.Plan.{ListingLevel}
 use Rattle.writer.proofs.Shaping.{Shaping, first-over, shaping-start, shaping-end, shaping-deep, shaping-over, shaping-turn}
-use borrow.Author.Needs.{needs}
 use Rattle.writer.proofs.plan.Statement.{statement}
 use Rattle.writer.proofs.plan.Tie as tie
 

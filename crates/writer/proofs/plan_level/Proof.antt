@@ -1,16 +1,10 @@
-use mathlib.Core.Path.{_≡_, refl, sym, _∙_}
-use mathlib.Core.List.{[]}
-use native.Mathlib.Omega.{arith}
-use lib.ListN.{take}
-use lib.Seq.{length-take-le}
-use denote.Ref.{now}
+use Rattle.fields.proofs.Base.{_≡_, refl, sym, _∙_, [], arith, take, length-take-le, now, needs}
 use Rattle.entries.specs.declared.Kind.the-variants.{Index}
 use Rattle.source.specs.Source.{itemFrom, rowsFrom}
 use Rattle.source.proofs.Rows.{Stepped, taken-entry, run-end}
 use Rattle.pack.specs.Fill.{extentFrom}
 use Rattle.pack.proofs.Levels.{chunks-more}
 use Rattle.writer.proofs.Planning.{Planning, planning-start, planning-end, planning-over, planning-turn}
-use borrow.Author.Needs.{needs}
 use Rattle.writer.proofs.plan_level.Statement.{statement}
 use Rattle.writer.proofs.plan_level.Tie as tie
 

@@ -1,8 +1,4 @@
-use mathlib.Core.Path.{_≡_, sym, _∙_}
-use mathlib.Core.List.{[]}
-use Prim.Native.Nat.{_<_}
-use native.Mathlib.Omega.{arith}
-use denote.Ref.{now}
+use Rattle.fields.proofs.Base.{_≡_, sym, _∙_, [], _<_, arith, now, needs}
 use Rattle.fields.proofs.Tests.{held, failed}
 use Rattle.entries.specs.Entry.{listingAt}
 use Rattle.entries.specs.declared.Kind.the-variants.{Listing}
@@ -12,7 +8,6 @@ use Rattle.source.proofs.Inputs.{ahead, passes-empty}
 use Rattle.pack.specs.Fill.{rowSize}
 use Rattle.pack.proofs.Sizes.{size-row}
 use Rattle.writer.proofs.Listings.{Reading, reading-start, reading-end, reading-short, reading-padded, reading-falls, reading-next, reading-turn}
-use borrow.Author.Needs.{needs}
 use Rattle.writer.proofs.plan_listing.Statement.{statement}
 use Rattle.writer.proofs.plan_listing.Tie as tie
 

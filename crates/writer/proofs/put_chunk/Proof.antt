@@ -1,16 +1,7 @@
-use mathlib.Core.Path.{_≡_, sym, _∙_}
-use mathlib.Core.Bool.{cond}
-use mathlib.Core.List.{List}
-use Prim.Native.Nat.{ℕ, _+_, _-_, _*_, _≤_}
-use native.Mathlib.Omega.{arith}
-use lib.ListN.{length, take, drop, length-drop}
-use lib.Seq.{length-take-le}
-use lib.Dec.{eqb}
-use borrow.Author.Tests.{eq-eqb}
+use Rattle.fields.proofs.Base.{_≡_, sym, _∙_, cond, List, ℕ, _+_, _-_, _*_, _≤_, arith, length, take, drop, length-drop, length-take-le, eqb, eq-eqb, needs}
 use Rattle.compose.proofs.Whole.{length-extent}
 use Rattle.layout.specs.Layout.{newPrevious, newNext}
 use Rattle.writer.proofs.Lent.{lent}
-use borrow.Author.Needs.{needs}
 use Rattle.writer.proofs.put_chunk.Statement.{statement}
 use Rattle.writer.proofs.put_chunk.Tie as tie
 

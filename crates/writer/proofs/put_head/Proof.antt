@@ -1,6 +1,5 @@
-use native.Mathlib.Omega.{arith}
+use Rattle.fields.proofs.Base.{arith, needs}
 use Rattle.writer.proofs.Answers.{leaves-are, ready-level, ready-index, head-written}
-use borrow.Author.Needs.{needs}
 use Rattle.writer.proofs.put_head.Statement.{statement}
 use Rattle.writer.proofs.put_head.Tie as tie
 

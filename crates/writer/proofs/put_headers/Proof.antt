@@ -1,13 +1,9 @@
-use mathlib.Core.Path.{ap, _∙_}
-use Prim.Native.Nat.{ℕ, _+_, _-_}
-use native.Mathlib.Omega.{arith}
-use lib.Seq.{sets}
+use Rattle.fields.proofs.Base.{ap, _∙_, ℕ, _+_, _-_, arith, sets, needs}
 use Rattle.compose.proofs.Words.{three}
 use Rattle.layout.specs.Headers.{headLength, fileHeader, sectionZero, directoryHeader}
 use Rattle.layout.specs.Layout.{newRoot}
 use Rattle.writer.specs.Plan.{headersOf}
 use Rattle.layout.proofs.Sizes.{length-file, length-section}
-use borrow.Author.Needs.{needs}
 use Rattle.writer.proofs.put_headers.Statement.{statement}
 use Rattle.writer.proofs.put_headers.Tie as tie
 

@@ -1,5 +1,4 @@
-use Prim.Native.Nat.{_-_}
-use native.Mathlib.Omega.{arith}
+use Rattle.fields.proofs.Base.{_-_, arith}
 use Rattle.entries.specs.declared.Kind.the-variants.{Listing}
 use Rattle.source.specs.Input.{given}
 use Rattle.pack.specs.Levels.{level}

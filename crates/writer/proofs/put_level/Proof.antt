@@ -1,16 +1,9 @@
-use mathlib.Core.Path.{_≡_, refl, sym, _∙_}
-use mathlib.Core.List.{[]}
-use Prim.Native.Nat.{_+_, _*_, _≤_, _<_}
-use native.Mathlib.Omega.{arith}
-use lib.ListN.{length, take}
-use lib.Seq.{length-take-le}
-use denote.Ref.{now}
+use Rattle.fields.proofs.Base.{_≡_, refl, sym, _∙_, [], _+_, _*_, _≤_, _<_, arith, length, take, length-take-le, now, needs}
 use Rattle.source.specs.Source.{itemFrom, rowsFrom}
 use Rattle.source.proofs.Rows.{Stepped, taken-entry, run-end}
 use Rattle.pack.specs.Fill.{extentFrom}
 use Rattle.pack.proofs.Levels.{chunks-more}
 use Rattle.writer.proofs.Leveled.{Leveled, leveled-start, leveled-end, leveled-room, leveled-turn}
-use borrow.Author.Needs.{needs}
 use Rattle.writer.proofs.put_level.Statement.{statement}
 use Rattle.writer.proofs.put_level.Tie as tie
 

@@ -1,9 +1,6 @@
-use mathlib.Core.Path.{_≡_, sym, ap, _∙_}
-use mathlib.Core.Bool.{true}
-use native.Mathlib.Omega.{arith}
-use denote.Ref.{now}
+use Rattle.fields.proofs.Base.{_≡_, sym, ap, _∙_, true, arith, now, needs}
 use Rattle.fields.proofs.Tests.{held, failed}
-use Rattle.chunk.specs.Chunk.{spacingOf}
+use Rattle.chunk_fields.specs.ChunkFields.{spacingOf}
 use Rattle.layout.specs.Headers.{headLength}
 use Rattle.layout.specs.Layout.{takes, layoutFor}
 use Rattle.layout.proofs.Cut.{takes-told}
@@ -12,7 +9,6 @@ use Rattle.layout.proofs.Places.{length-head}
 use Rattle.writer.specs.Plan.{inBounds, LevelsPlanned}
 use Rattle.writer.specs.declared.Written.the-variants.{Refused}
 use Rattle.writer.proofs.Answers.{limits-dense, takes-both, takes-limits, takes-right, answer-18, answer-19, answer-20, answer-head, made-small, spacing-is}
-use borrow.Author.Needs.{needs}
 use Rattle.writer.proofs.write_head.Statement.{statement}
 use Rattle.writer.proofs.write_head.Tie as tie
 

@@ -1,11 +1,5 @@
 -- The invariant: the step at the cursor that was come to is the step asked for.
-use borrow.Author.Needs.{needs}
-use mathlib.Core.Path.{_≡_, refl, sym, ap, subst, _∙_}
-use mathlib.Core.Logic.{_≢_}
-use mathlib.Core.List.{List}
-use Prim.Native.Nat.{ℕ}
-use native.Mathlib.Omega.{arith}
-use denote.Ref.{now}
+use Rattle.fields.proofs.Base.{needs, _≡_, refl, sym, ap, subst, _∙_, _≢_, List, ℕ, arith, now}
 use Rattle.refusals.specs.declared.Refusal.{Refusal}
 use Rattle.header.specs.declared.Record.{Record}
 use Rattle.opening.specs.Opened.{opened}

@@ -1,7 +1,4 @@
-use borrow.Author.Needs.{needs}
-use mathlib.Core.Path.{_≡_, sym, ap, _∙_}
-use mathlib.Core.Bool.{true}
-use denote.Ref.{now}
+use Rattle.fields.proofs.Base.{needs, _≡_, sym, ap, _∙_, true, now}
 use Rattle.fields.proofs.Tests.{held, failed}
 use Rattle.entries.specs.declared.Kind.the-variants.{Listing}
 use Rattle.quickref.specs.Quickref.{nthIn}

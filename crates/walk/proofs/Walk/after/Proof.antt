@@ -1,7 +1,4 @@
-use borrow.Author.Needs.{needs}
-use mathlib.Core.Path.{refl, ap}
-use Prim.Native.Nat.{ℕ}
-use native.Mathlib.Omega.{arith}
+use Rattle.fields.proofs.Base.{needs, refl, ap, ℕ, arith}
 use Rattle.walk.specs.Walk.{afterOf}
 use Rattle.walk.specs.declared.Walk.{Walk}
 use Rattle.walk.proofs.Walk.after.Statement.{statement}

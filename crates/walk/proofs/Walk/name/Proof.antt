@@ -1,4 +1,4 @@
-use borrow.Author.Needs.{needs}
+use Rattle.fields.proofs.Base.{needs}
 use Rattle.walk.specs.Walk.{nameHere}
 use Rattle.walk.proofs.Walk.name.Statement.{statement}
 use Rattle.walk.proofs.Walk.name.Tie as tie

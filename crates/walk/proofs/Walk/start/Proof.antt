@@ -1,7 +1,4 @@
-use borrow.Author.Needs.{needs}
-use mathlib.Core.Path.{_≡_, sym, ap, subst}
-use mathlib.Core.List.{List}
-use Prim.Native.Nat.{ℕ}
+use Rattle.fields.proofs.Base.{needs, _≡_, sym, ap, subst, List, ℕ}
 use Rattle.header.specs.declared.Record.{Record}
 use Rattle.walk.specs.Walk.{walkStart}
 use Rattle.walk.specs.Exact.{WalkExact}

@@ -1,7 +1,6 @@
-use borrow.Author.Needs.{needs}
-use mathlib.Core.Path.{sym, _∙_}
-use Rattle.chunk.proofs.kind_of.Statement.{statement}
-use Rattle.chunk.proofs.kind_of.Tie as tie
+use Rattle.fields.proofs.Base.{needs, sym, _∙_}
+use Rattle.chunk_fields.proofs.kind_of.Statement.{statement}
+use Rattle.chunk_fields.proofs.kind_of.Tie as tie
 
 has-tag-requires : tie.Need-has-tag-requires
 has-tag-requires c κs = search needs

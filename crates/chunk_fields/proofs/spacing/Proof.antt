@@ -1,11 +1,7 @@
-use mathlib.Core.Path.{_≡_, _∙_}
-use Prim.Native.Nat.{ℕ, _*_, _%_, _^_, _<_, _≤_, min}
-use native.Mathlib.Nat.{mod-eq-of-lt, pow-le-pow-right, one-mul}
-use native.Mathlib.Omega.{arith}
-use borrow.Author.Needs.{needs}
-use lib.Dec.{lit<}
-use Rattle.chunk.proofs.spacing.Statement.{statement}
-use Rattle.chunk.proofs.spacing.Tie as tie
+use Rattle.fields.proofs.Base.{_≡_, _∙_, ℕ, _*_, _%_, _^_, _<_, _≤_, min, mod-eq-of-lt, pow-le-pow-right, arith, needs, lit<}
+use native.Mathlib.Nat.{one-mul}
+use Rattle.chunk_fields.proofs.spacing.Statement.{statement}
+use Rattle.chunk_fields.proofs.spacing.Tie as tie
 
 -- a low density's power fits in 16 bits
 low : (d : ℕ) → d < 16 → 2 ^ d ≤ 2 ^ 15

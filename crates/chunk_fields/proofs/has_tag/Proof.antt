@@ -1,6 +1,6 @@
-use borrow.Author.Needs.{needs}
-use Rattle.chunk.proofs.has_tag.Statement.{statement}
-use Rattle.chunk.proofs.has_tag.Tie as tie
+use Rattle.fields.proofs.Base.{needs}
+use Rattle.chunk_fields.proofs.has_tag.Statement.{statement}
+use Rattle.chunk_fields.proofs.has_tag.Tie as tie
 
 enum-told : tie.Need-enum-told
 enum-told c = search needs
