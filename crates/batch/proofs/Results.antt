@@ -2,9 +2,9 @@
 use Rattle.fields.proofs.Base.{_≡_, refl, sym, ap, _∙_, List, [], _∷_, _++_, flatMap, append-nil, append-assoc, ℕ, _+_, _-_, _*_, _≤_, _<_, arith, length, length-append, sets, length-sets}
 use Rattle.fields.specs.Le.{bytes}
 use Rattle.fields.specs.Part.{part}
-use Rattle.fields.specs.Put.{put}
+use Rattle.put.specs.Put.{put}
 use Rattle.fields.proofs.Le.{length-bytes}
-use Rattle.fields.proofs.Put.{sets-after, sets-then, put-inside, length-put}
+use Rattle.put.proofs.Put.{sets-after, sets-then, put-inside, length-put}
 use Rattle.encint.specs.declared.Number.the-variants.{Value, Bad}
 use Rattle.header.specs.declared.Record.{Record}
 use Rattle.fetch.specs.Fetch.{fetched}

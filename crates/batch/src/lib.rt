@@ -59,10 +59,10 @@ fn put_four(out: &mut [u8], at: usize, status: u64, section: u64, offset: u64, s
     requires { ⌜ at + 32 ≤ length (now out) ⌝ }
     ensures { λ _. ⌜ now (out .exit) ≡ sets (now (out .entry)) at (flatMap (bytes 8) (status ∷ section ∷ offset ∷ size ∷ [])) ⌝ }
 {
-    fields::put64(out, at, status);
-    fields::put64(out, at + 8, section);
-    fields::put64(out, at + 16, offset);
-    fields::put64(out, at + 24, size);
+    put::put64(out, at, status);
+    put::put64(out, at + 8, section);
+    put::put64(out, at + 16, offset);
+    put::put64(out, at + 24, size);
 }
 
 // Writes the result of a reply at a place.

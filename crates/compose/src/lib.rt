@@ -8,7 +8,7 @@ ghost use lib.ListN.{length, replicate, take};
 ghost use lib.Seq.{sets};
 ghost use Rattle.fields.specs.Le.{bytes};
 ghost use Rattle.fields.specs.Part.{inside, part};
-ghost use Rattle.fields.specs.Put.{put};
+ghost use Rattle.put.specs.Put.{put};
 ghost use Rattle.encint.specs.Encint.{encoded};
 ghost use Rattle.entries.specs.declared.Kind.the-variants.{Listing};
 ghost use Rattle.chunk_fields.specs.ChunkFields.{firstPlace, countPlace, quickPlace};
@@ -30,7 +30,7 @@ fn write_words(out: &mut [u8], at: usize, words: &[u32])
 {
     let mut i = 0;
     while i < words.len() {
-        fields::put32(out, at + 4 * i, words[i]);
+        put::put32(out, at + 4 * i, words[i]);
         i += 1;
     }
 }
@@ -121,7 +121,7 @@ fn put_quick_word(out: &mut [u8], i: usize, n: usize, offset: usize)
     if i % n != 0 {
         return;
     }
-    fields::put16(out, chunk_fields::quick_place(i / n), offset as u16);
+    put::put16(out, chunk_fields::quick_place(i / n), offset as u16);
 }
 
 // Writes the entries from a cursor on, as many as fit, with their quick words into a chunk of zeros. Returns what it took.
@@ -188,7 +188,7 @@ fn put_frame(out: &mut [u8], kind: Kind, used: usize, count: usize, prev: u32, n
         prev,
         next,
     );
-    fields::put16(out, chunk_fields::COUNT_PLACE, count as u16);
+    put::put16(out, chunk_fields::COUNT_PLACE, count as u16);
 }
 
 // Writes the chunk whose first entry is at a cursor, with as many entries as fit; `prev` and `next` are for a listing chunk. Writes nothing

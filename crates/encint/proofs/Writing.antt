@@ -3,9 +3,9 @@ use Rattle.fields.proofs.Base.{_≡_, refl, ap, sym, _∙_, cond, List, [], _�
 use native.Mathlib.Nat.{suc-inj, add-suc}
 use lib.Seq.{take-set-le}
 use Rattle.fields.specs.Part.{inside}
-use Rattle.fields.specs.Put.{put}
+use Rattle.put.specs.Put.{put}
 use Rattle.fields.proofs.Tests.{cond-same}
-use Rattle.fields.proofs.Put.{put-none, put-refused, put-done, sets-parts}
+use Rattle.put.proofs.Put.{put-none, put-refused, put-done, sets-parts}
 use Rattle.encint.specs.Encint.{sevenBitGroups, leading, encoded}
 
 -- ---- the bytes of a value

@@ -5,7 +5,7 @@ ghost use mathlib.Core.List.{_++_};
 ghost use Prim.Native.Nat.{_+_, _≤_, min};
 ghost use lib.ListN.{length, take, drop};
 ghost use Rattle.fields.specs.Part.{inside};
-ghost use Rattle.fields.specs.Put.{put};
+ghost use Rattle.put.specs.Put.{put};
 ghost use Rattle.encint.specs.Encint.{rest, encintAt, leading, encoded};
 ghost use Rattle.encint.specs.Padded.{ReadExact};
 

@@ -1,11 +1,10 @@
 -- Laws of `le` and `bytes`, over every width: bounds, reading in another list, and reading back what was written.
-use Rattle.fields.proofs.Base.{_≡_, refl, ap, ap₂, sym, _∙_, List, [], _∷_, _++_, ℕ, zero, suc, _+_, _-_, _*_, _/_, _%_, _^_, _≤_, _<_, pow-suc, pow-succ', pow-le-pow-right, lt-of-lt-of-le, add-zero, arith, lit<, length, getD, take, drop, length-append, sets, length-take-le}
+use Rattle.fields.proofs.Base.{_≡_, refl, ap, ap₂, sym, _∙_, List, [], _∷_, _++_, ℕ, zero, suc, _+_, _-_, _*_, _/_, _%_, _^_, _≤_, _<_, pow-suc, pow-succ', pow-le-pow-right, lt-of-lt-of-le, add-zero, arith, lit<, length, getD, length-append}
 use native.Mathlib.Nat.{mul-assoc}
 use lib.Seq.{getD-append-seam, append-snoc}
 use Rattle.fields.specs.Le.{le, bytes}
 use Rattle.fields.specs.Part.{part}
 use Rattle.fields.proofs.Parts.{past, drop-more}
-use Rattle.fields.proofs.Put.{sets-parts}
 
 -- ---- reading
 
@@ -103,9 +102,8 @@ pub bytes-none : (k i v : ℕ) → k ≤ i → bytes (k - i) v ≡ []
 unfolding bytes
 bytes-none k i v h = let e : k - i ≡ 0 = omega arith in rw e
 
--- ---- what was written is read back
+-- ---- what was written is read back, between other bytes
 
--- between other bytes
 pub le-bytes : (k v : ℕ) (p q : List ℕ) → v < 256 ^ k → le k (p ++ (bytes k v ++ q)) (length p) ≡ v
 unfolding le bytes
 le-bytes zero v p q h = omega arith
@@ -116,9 +114,3 @@ le-bytes (suc k) v p q h =
     let n : length p + 1 ≡ length (p ++ (b ∷ [])) = sym (length-append p (b ∷ [])) in
     let r : le k (p ++ (b ∷ x)) (length p + 1) ≡ v / 256 = rw (n, ← append-snoc p b x) (le-bytes k (v / 256) (p ++ (b ∷ [])) q (omega arith)) in
     rw (getD-append-seam, r) (omega arith)
-
--- where it was written
-pub read-back : (k v : ℕ) (s : List ℕ) (at : ℕ) → v < 256 ^ k → at + k ≤ length s → le k (sets s at (bytes k v)) at ≡ v
-read-back k v s at h l =
-    let n : length (take at s) ≡ at = length-take-le at s (omega arith) in
-    rw (sets-parts s at (bytes k v) (rw length-bytes l)) (rw n at (le-bytes k v (take at s) (drop (at + length (bytes k v)) s) h))

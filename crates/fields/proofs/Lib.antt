@@ -2,6 +2,5 @@ pub mod Base
 pub mod Le
 pub mod Lists
 pub mod Parts
-pub mod Put
 pub mod Same
 pub mod Tests

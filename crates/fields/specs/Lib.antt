@@ -1,4 +1,3 @@
 pub mod Le
 pub mod Part
-pub mod Put
 pub mod Same

@@ -1,6 +1,6 @@
 -- A page as it is written: the numbers of the entries that are left make the whole.
 use Rattle.fields.proofs.Base.{_≡_, refl, sym, ap, _∙_, true, List, [], _∷_, _++_, map, flatMap, ℕ, suc, _+_, _-_, _*_, _≤_, _<_, arith, length, drop, set, drop-of-length-le, sets, length-sets}
-use Rattle.fields.proofs.Put.{sets-after}
+use Rattle.put.proofs.Put.{sets-after}
 use Rattle.entries.specs.Entry.{itemAt, Entry}
 use Rattle.entries.specs.declared.Place.{Place}
 use Rattle.entries.specs.declared.Item.the-variants.{Good, Bad}

@@ -1,6 +1,6 @@
 -- The whole head, from its parts (`head-written`), and the writer's answers.
 use Rattle.fields.proofs.Base.{_≡_, refl, sym, ap, subst, _∙_, Bool, true, false, _&&_, List, [], _++_, map, flatten, append-assoc, ℕ, _+_, _-_, _*_, _^_, _≤_, _<_, min, arith, length, getD, take, drop, length-append, length-map, sets, take-at, ltb, leb, le-leb, lt-leb, leb-true}
-use Rattle.fields.proofs.Put.{sets-parts}
+use Rattle.put.proofs.Put.{sets-parts}
 use Rattle.fields.proofs.Tests.{and-both, and-no}
 use Rattle.entries.specs.declared.Kind.the-variants.{Listing, Index}
 use Rattle.refusals.specs.Refusals.{refusalOf}

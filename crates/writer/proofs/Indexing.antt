@@ -2,7 +2,7 @@
 -- numbered from base up to end.
 use Rattle.fields.proofs.Base.{_≡_, refl, sym, ap, subst, _∙_, List, [], _∷_, _++_, map, flatten, ℕ, _+_, _-_, _*_, _≤_, _<_, arith, length, take, sets}
 use Rattle.fields.specs.Part.{part}
-use Rattle.fields.proofs.Put.{sets-after}
+use Rattle.put.proofs.Put.{sets-after}
 use Rattle.entries.specs.declared.Kind.the-variants.{Index}
 use Rattle.entries.specs.Stored.{Stored, storedOf}
 use Rattle.pack.specs.Groups.{fits}

@@ -1,7 +1,7 @@
 -- A part of a list that was lent and has come back, and parts that are read back.
 use Rattle.fields.proofs.Base.{_≡_, sym, ap, _∙_, List, _++_, ℕ, _+_, _≤_, arith, length, take, drop, sets, drop-drop, take-at, drop-at, take-append-seam, length-take-le}
 use Rattle.fields.specs.Part.{part}
-use Rattle.fields.proofs.Put.{sets-parts}
+use Rattle.put.proofs.Put.{sets-parts}
 
 -- the k elements from a on are now ys
 pub lent : (a k : ℕ) (xs ys whole : List ℕ) → ys ≡ whole → k ≡ length whole → a + length whole ≤ length xs → take a xs ++ (ys ++ drop k (drop a xs)) ≡ sets xs a whole

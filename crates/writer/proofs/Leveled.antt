@@ -1,7 +1,7 @@
 -- The loop that writes one level: before each chunk (`Leveled`), and what a turn leaves. The cursor is at `here` with
 -- `left` that may be taken, and chunk j comes next; at first it was at `base` with `all`.
 use Rattle.fields.proofs.Base.{_≡_, refl, sym, ap, _∙_, List, [], map, flatten, ℕ, _+_, _*_, _≤_, _<_, arith, length, take, sets}
-use Rattle.fields.proofs.Put.{sets-after}
+use Rattle.put.proofs.Put.{sets-after}
 use Rattle.entries.specs.declared.Place.{Place}
 use Rattle.entries.specs.declared.Item.the-variants.{Good}
 use Rattle.entries.specs.declared.Kind.{Kind}

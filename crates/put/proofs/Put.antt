@@ -1,8 +1,10 @@
 -- Writing into a list: laws of `sets`, the bytes written one by one, and of `put`.
-use Rattle.fields.proofs.Base.{_≡_, ap, sym, _∙_, true, false, List, [], _∷_, _++_, append-assoc, ℕ, suc, _+_, _≤_, _<_, decLe, arith, length, take, drop, set, sets, sets-eq, length-sets, le-leb, lt-leb}
+use Rattle.fields.proofs.Base.{_≡_, ap, sym, _∙_, true, false, List, [], _∷_, _++_, append-assoc, ℕ, suc, _+_, _≤_, _<_, decLe, arith, length, take, drop, set, sets, sets-eq, length-sets, le-leb, lt-leb, _^_, length-take-le}
 use Rattle.fields.specs.Part.{inside}
-use Rattle.fields.specs.Put.{put}
+use Rattle.put.specs.Put.{put}
+use Rattle.fields.specs.Le.{le, bytes}
+use Rattle.fields.proofs.Le.{length-bytes, le-bytes}
 use Rattle.fields.proofs.Tests.{cond-same}
 
 -- ---- one run
 
@@ -64,3 +66,10 @@ length-put s at l =
       | yes h ↦ ap length (put-inside s at l h) ∙ length-sets s at l
       | no h ↦ ap length (put-outside s at l (omega arith))
     ]
+
+-- ---- a number that was written is read back
+
+pub read-back : (k v : ℕ) (s : List ℕ) (at : ℕ) → v < 256 ^ k → at + k ≤ length s → le k (sets s at (bytes k v)) at ≡ v
+read-back k v s at h l =
+    let n : length (take at s) ≡ at = length-take-le at s (omega arith) in
+    rw (sets-parts s at (bytes k v) (rw length-bytes l)) (rw n at (le-bytes k v (take at s) (drop (at + length (bytes k v)) s) h))

@@ -1,11 +1,11 @@
 -- `fields::write_number` meets its contract. The loop's invariant: what is left to be written makes the whole.
 use Rattle.fields.proofs.Base.{_≡_, refl, _+_, _-_, _≤_, add-zero, length, length-set, sets, needs}
 use native.Mathlib.Nat.{sub-zero}
 use Rattle.fields.specs.Le.{bytes}
 use Rattle.fields.proofs.Le.{bytes-more, bytes-none}
-use Rattle.fields.proofs.Put.{sets-turn, sets-end}
-use Rattle.fields.proofs.write_number.Statement.{statement}
-use Rattle.fields.proofs.write_number.Tie as tie
+use Rattle.put.proofs.Put.{sets-turn, sets-end}
+use Rattle.put.proofs.write_number.Statement.{statement}
+use Rattle.put.proofs.write_number.Tie as tie
 
 abbrev Inv-loop : tie.InvT-loop
 Inv-loop out₀ at v k x₀ i₀ out x i =

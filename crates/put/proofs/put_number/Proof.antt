@@ -1,9 +1,9 @@
 use Rattle.fields.proofs.Base.{sym, _∙_, arith, needs}
 use Rattle.fields.specs.Le.{bytes}
 use Rattle.fields.proofs.Le.{length-bytes}
-use Rattle.fields.proofs.Put.{put-refused, put-done}
-use Rattle.fields.proofs.put_number.Statement.{statement}
-use Rattle.fields.proofs.put_number.Tie as tie
+use Rattle.put.proofs.Put.{put-refused, put-done}
+use Rattle.put.proofs.put_number.Statement.{statement}
+use Rattle.put.proofs.put_number.Tie as tie
 
 returns : tie.Need-returns
 returns c =
