@@ -12,13 +12,13 @@ use Rattle.walk.specs.Walk.{afterOf, comingAt, nameHere}
 use Rattle.walk.specs.Exact.{Comes}
 use Rattle.walk.specs.declared.Walk.{Walk}
 use Rattle.walk.specs.declared.Coming.the-variants.{End as Over, Refused as Barred}
-use Rattle.compare.specs.Course.{heldName, sameNumbers, oneFirst, oneSecond, oneSame, oneChanged}
-use Rattle.compare.specs.Compare.{refusedBy, bothAt, shownAt, sameAt, inBoth, paired, behindFirst, besideFirst, turned}
+use Rattle.turn.specs.Turn.{oneFirst, oneSecond, oneSame, oneChanged, refusedBy, bothAt, shownAt, sameAt, inBoth, paired, behindFirst, besideFirst, turned}
+use Rattle.turn.specs.declared.Totals.{Totals}
+use Rattle.turn.specs.declared.Shown.{Shown}
+use Rattle.turn.specs.declared.Step.the-variants.{First, Second, Changed, End}
+use Rattle.turn.specs.declared.Turn.the-variants.{Tell, On}
+use Rattle.compare.specs.Course.{heldName, sameNumbers}
 use Rattle.compare.specs.Compared.{shownOf}
-use Rattle.compare.specs.declared.Totals.{Totals}
-use Rattle.compare.specs.declared.Shown.{Shown}
-use Rattle.compare.specs.declared.Step.the-variants.{First, Second, Changed, End}
-use Rattle.compare.specs.declared.Turn.the-variants.{Tell, On}
 
 -- an entry that comes next is told as the reading has it
 shown-is : (s : List ℕ) (book : Record) (w v : Walk) (e : Place) (h : Held) → Comes s book w v e h → shownAt s book v e ≡ shownOf book h

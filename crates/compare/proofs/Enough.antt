@@ -2,11 +2,13 @@
 use Rattle.fields.proofs.Base.{_≡_, refl, sym, _∙_, List, ℕ, zero, suc, _<_, arith}
 use Rattle.header.specs.declared.Record.{Record}
 use Rattle.walk.specs.Walk.{weight}
-use Rattle.compare.specs.Compare.{turned, stepFrom, compareStep}
-use Rattle.compare.specs.declared.Cursor.{Cursor}
-use Rattle.compare.specs.declared.Turn.{Turn}
-use Rattle.compare.specs.declared.Turn.the-variants.{Tell, On}
-use Rattle.compare.proofs.Turning.{turn-falls, step-tell, step-on}
+use Rattle.turn.specs.Turn.{turned}
+use Rattle.turn.specs.declared.Cursor.{Cursor}
+use Rattle.turn.specs.declared.Turn.{Turn}
+use Rattle.turn.specs.declared.Turn.the-variants.{Tell, On}
+use Rattle.turn.proofs.Falling.{turn-falls}
+use Rattle.compare.specs.Compare.{stepFrom, compareStep}
+use Rattle.compare.proofs.Stepping.{step-tell, step-on}
 
 module _ (s₁ : List ℕ) (b₁ : Record) (s₂ : List ℕ) (b₂ : Record) where
   same-step : (n m : ℕ) (at : Cursor) → weight (at .first) < n → weight (at .first) < m → stepFrom s₁ b₁ s₂ b₂ n at ≡ stepFrom s₁ b₁ s₂ b₂ m at

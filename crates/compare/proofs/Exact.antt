@@ -6,13 +6,13 @@ use Rattle.header.specs.declared.Record.{Record}
 use Rattle.walk.specs.Walk.{weight, walkStart}
 use Rattle.walk.specs.Exact.{readingOf}
 use Rattle.walk.proofs.Standing.{walk-exact}
+use Rattle.turn.specs.declared.Totals.{Totals}
+use Rattle.turn.specs.declared.Cursor.{Cursor}
+use Rattle.turn.specs.declared.Step.{Step}
+use Rattle.turn.specs.declared.Step.the-variants.{End, Refused}
 use Rattle.compare.specs.Course.{Ending, done, first-stops, second-stops, course, ending, noTotals}
 use Rattle.compare.specs.Compare.{compareStart, stepFrom, compareStep}
 use Rattle.compare.specs.Compared.{Difference, only-first, only-second, changed, toldIn, behindStep, toldFrom, afterSteps, courseTold, courseTotals, endCursor, lastStep, ComparisonExact}
-use Rattle.compare.specs.declared.Totals.{Totals}
-use Rattle.compare.specs.declared.Cursor.{Cursor}
-use Rattle.compare.specs.declared.Step.{Step}
-use Rattle.compare.specs.declared.Step.the-variants.{End, Refused}
 use Rattle.compare.proofs.Following.{stepOf, Run, merged-follows}
 
 -- a step that tells a difference, and one that tells none

@@ -12,15 +12,17 @@ use Rattle.walk.specs.Walk.{afterOf, comingAt, weight}
 use Rattle.walk.specs.Exact.{Comes, Reads}
 use Rattle.walk.specs.declared.Walk.{Walk}
 use Rattle.walk.specs.declared.Coming.the-variants.{End as Over}
-use Rattle.compare.specs.Course.{left, right, both, Course, next, heldName, secondAlone, against, merged, pairs, ending, sameNumbers, differences, oneFirst, oneSecond, oneSame, oneChanged, totalsFrom}
-use Rattle.compare.specs.Compare.{bothAt, turned, stepFrom}
+use Rattle.turn.specs.Turn.{oneFirst, oneSecond, oneSame, oneChanged, bothAt, turned}
+use Rattle.turn.specs.declared.Totals.{Totals}
+use Rattle.turn.specs.declared.Cursor.{Cursor}
+use Rattle.turn.specs.declared.Step.{Step}
+use Rattle.turn.specs.declared.Step.the-variants.{First, Second, Changed}
+use Rattle.turn.specs.declared.Turn.the-variants.{Tell, On}
+use Rattle.turn.proofs.Falling.{turn-falls}
+use Rattle.compare.specs.Course.{left, right, both, Course, next, heldName, secondAlone, against, merged, pairs, ending, sameNumbers, differences, totalsFrom}
+use Rattle.compare.specs.Compare.{stepFrom}
 use Rattle.compare.specs.Compared.{Difference, only-first, only-second, changed, shownOf, differenceOf, lastStep}
-use Rattle.compare.specs.declared.Totals.{Totals}
-use Rattle.compare.specs.declared.Cursor.{Cursor}
-use Rattle.compare.specs.declared.Step.{Step}
-use Rattle.compare.specs.declared.Step.the-variants.{First, Second, Changed}
-use Rattle.compare.specs.declared.Turn.the-variants.{Tell, On}
-use Rattle.compare.proofs.Turning.{turn-falls, step-tell, step-on}
+use Rattle.compare.proofs.Stepping.{step-tell, step-on}
 use Rattle.compare.proofs.Cases.{first-barred, end-barred, end-end, end-entry, entry-barred, entry-end, entry-less, entry-greater, entry-same, entry-changed}
 
 -- the step that tells a difference and hands a cursor back

@@ -1,5 +1,4 @@
-pub mod Turns
-pub mod Turning
+pub mod Stepping
 pub mod Enough
 pub mod Passing
 pub mod Merged

@@ -7,14 +7,15 @@ use Rattle.book.specs.Book.{limitsOf, chunkBytes, recordFits}
 use Rattle.walk.specs.Walk.{afterOf, nameHere, weight}
 use Rattle.walk.specs.declared.Walk.{Walk}
 use Rattle.walk.proofs.Entering.{peek-here}
-use Rattle.compare.specs.Course.{oneSame}
-use Rattle.compare.specs.Compare.{bothAt, inBoth, paired, besideFirst, turned, compareStep}
+use Rattle.turn.specs.Turn.{oneSame, bothAt, inBoth, paired, besideFirst, turned}
+use Rattle.turn.specs.declared.Totals.{Totals}
+use Rattle.turn.specs.declared.Cursor.{Cursor}
+use Rattle.turn.specs.declared.Step.{Step}
+use Rattle.turn.specs.declared.Turn.the-variants.{Tell, On}
+use Rattle.turn.proofs.Falling.{turn-falls}
+use Rattle.compare.specs.Compare.{compareStep}
 use Rattle.compare.specs.Passing.{SameEntries, Passed}
-use Rattle.compare.specs.declared.Totals.{Totals}
-use Rattle.compare.specs.declared.Cursor.{Cursor}
-use Rattle.compare.specs.declared.Step.{Step}
-use Rattle.compare.specs.declared.Turn.the-variants.{Tell, On}
-use Rattle.compare.proofs.Turning.{turn-falls, step-tell, step-on}
+use Rattle.compare.proofs.Stepping.{step-tell, step-on}
 use Rattle.compare.proofs.Enough.{enough}
 
 module _ (s₁ : List ℕ) (b₁ : Record) (s₂ : List ℕ) (b₂ : Record) where

@@ -14,13 +14,14 @@ use Rattle.tree.specs.Reading.{Held, Reading, heldOf}
 use Rattle.book.specs.Book.{directoryOf, shapeOf}
 use Rattle.report.specs.Report.{reportOf, ownOf}
 use Rattle.walk.specs.Exact.{readingOf}
+use Rattle.turn.specs.Turn.{refusedBy}
+use Rattle.turn.specs.declared.Totals.{Totals}
+use Rattle.turn.specs.declared.Cursor.{Cursor}
+use Rattle.turn.specs.declared.Shown.{Shown}
+use Rattle.turn.specs.declared.Step.{Step}
+use Rattle.turn.specs.declared.Step.the-variants.{First, Second, Changed, End, Refused}
 use Rattle.compare.specs.Course.{Pair, left, right, both, Ending, done, first-stops, second-stops, heldName, course, pairs, ending, pairName, firsts, seconds, isSame, differences, totalsFrom, noTotals}
-use Rattle.compare.specs.Compare.{refusedBy, compareStep}
-use Rattle.compare.specs.declared.Totals.{Totals}
-use Rattle.compare.specs.declared.Cursor.{Cursor}
-use Rattle.compare.specs.declared.Shown.{Shown}
-use Rattle.compare.specs.declared.Step.{Step}
-use Rattle.compare.specs.declared.Step.the-variants.{First, Second, Changed, End, Refused}
+use Rattle.compare.specs.Compare.{compareStep}
 
 -- ---- differences as steps tell them
 

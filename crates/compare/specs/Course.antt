@@ -1,5 +1,5 @@
 -- What a comparison is: two readings side by side, in the order of names.
-use Prim.Native.Nat.{ℕ, _+_, _%_, _^_}
+use Prim.Native.Nat.{ℕ}
 use mathlib.Core.Bool.{Bool, false, cond, _&&_}
 use mathlib.Core.List.{List, [], _∷_}
 use lib.Dec.{eqb}
@@ -9,7 +9,8 @@ use Rattle.seek.specs.Seek.{byOrder}
 use Rattle.header.specs.declared.Record.{Record}
 use Rattle.tree.specs.Reading.{Held, Reading}
 use Rattle.walk.specs.Exact.{readingOf}
-use Rattle.compare.specs.declared.Totals.{Totals}
+use Rattle.turn.specs.Turn.{oneFirst, oneSecond, oneSame, oneChanged}
+use Rattle.turn.specs.declared.Totals.{Totals}
 
 -- a name that is only in the first, only in the second, or in both
 pub data Pair : Type 0 where
@@ -101,22 +102,6 @@ isSame (both x y) = sameNumbers (x .entry) (y .entry)
 unfoldable pub differences : List Pair → List Pair
 differences [] = []
 differences (p ∷ ps) = cond (isSame p) (differences ps) (p ∷ differences ps)
-
--- one more, of 64 bits
-abbrev pub oneMore : ℕ → ℕ
-oneMore n = (n + 1) % 2 ^ 64
-
-abbrev pub oneFirst : Totals → Totals
-oneFirst t = record { first = oneMore (t .first); second = t .second; same = t .same; changed = t .changed }
-
-abbrev pub oneSecond : Totals → Totals
-oneSecond t = record { first = t .first; second = oneMore (t .second); same = t .same; changed = t .changed }
-
-abbrev pub oneSame : Totals → Totals
-oneSame t = record { first = t .first; second = t .second; same = oneMore (t .same); changed = t .changed }
-
-abbrev pub oneChanged : Totals → Totals
-oneChanged t = record { first = t .first; second = t .second; same = t .same; changed = oneMore (t .changed) }
 
 -- the totals with a pair counted
 abbrev pub withPair : Totals → Pair → Totals

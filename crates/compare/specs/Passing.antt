@@ -12,8 +12,9 @@ use Rattle.entries.specs.declared.Place.{Place}
 use Rattle.entries.specs.declared.Item.the-variants.{Good}
 use Rattle.header.specs.declared.Record.{Record}
 use Rattle.walk.specs.Walk.{weight}
-use Rattle.compare.specs.Compare.{sameAt, compareStep}
-use Rattle.compare.specs.declared.Cursor.{Cursor}
+use Rattle.turn.specs.Turn.{sameAt}
+use Rattle.turn.specs.declared.Cursor.{Cursor}
+use Rattle.compare.specs.Compare.{compareStep}
 use Rattle.compare.specs.declared.Same.{Same}
 use Rattle.compare.specs.declared.Same.the-variants.{Both, Other}
 

@@ -2,10 +2,10 @@
 use mathlib.Core.Path.{_≡_, subst}
 use Prim.Native.Nat.{ℕ, _<_}
 use native.Mathlib.Omega.{arith}
-use Rattle.compare.specs.declared.Cursor.{Cursor}
-use Rattle.compare.specs.declared.Step.{Step}
-use Rattle.compare.specs.declared.Step.the-variants.{First, Second, Changed, End, Refused}
-use Rattle.compare.specs.Compare.{load, Lighter}
+use Rattle.turn.specs.declared.Cursor.{Cursor}
+use Rattle.turn.specs.declared.Step.{Step}
+use Rattle.turn.specs.declared.Step.the-variants.{First, Second, Changed, End, Refused}
+use Rattle.turn.specs.Turn.{load, Lighter}
 use Rattle.diff.specs.Steps.{nextAfter}
 use Rattle.diff.specs.declared.Next.the-variants.{At, Over}
 

@@ -1,6 +1,6 @@
 -- Where the program goes on behind a step of the comparison: at the cursor of a difference, nowhere behind the end or a refusal.
-use Rattle.compare.specs.declared.Step.{Step}
-use Rattle.compare.specs.declared.Step.the-variants.{First, Second, Changed, End, Refused}
+use Rattle.turn.specs.declared.Step.{Step}
+use Rattle.turn.specs.declared.Step.the-variants.{First, Second, Changed, End, Refused}
 use Rattle.diff.specs.declared.Next.{Next}
 use Rattle.diff.specs.declared.Next.the-variants.{At, Over}
 

@@ -5,11 +5,11 @@ ghost use mathlib.Core.Path.{_≡_};
 ghost use Rattle.io.specs.Counts.{Counts};
 ghost use Rattle.diff.specs.Files.{openedFile};
 ghost use Rattle.diff.specs.Steps.{nextAfter};
-use compare::Cursor;
-use compare::Shown;
-use compare::Step;
 use header::Record;
 use opening::Opened;
+use turn::Cursor;
+use turn::Shown;
+use turn::Step;
 
 // Where the comparison goes on behind a step: at a cursor, or nowhere.
 enum Next {
@@ -96,9 +96,9 @@ fn write_step(file1: &[u8], file2: &[u8], step: Step) -> Next
 
 // A frame for each difference.
 fn write_differences(file1: &[u8], one: Record, file2: &[u8], two: Record) {
-    let mut at = Cursor::start(one, two);
+    let mut at = compare::start(one, two);
     loop {
-        match write_step(file1, file2, at.step(file1, one, file2, two)) {
+        match write_step(file1, file2, compare::step(at, file1, one, file2, two)) {
             Next::At(behind) => {
                 at = behind;
             }

@@ -4,11 +4,11 @@ use mathlib.Core.List.{List, [], _∷_, _++_}
 use lib.ListN.{getD}
 use Rattle.page.specs.Page.{fiveOf}
 use Rattle.walk.specs.declared.Walk.{Walk}
-use Rattle.compare.specs.declared.Totals.{Totals}
-use Rattle.compare.specs.declared.Cursor.{Cursor}
-use Rattle.compare.specs.declared.Shown.{Shown}
-use Rattle.compare.specs.declared.Step.{Step}
-use Rattle.compare.specs.declared.Step.the-variants.{First, Second, Changed, End, Refused}
+use Rattle.turn.specs.declared.Totals.{Totals}
+use Rattle.turn.specs.declared.Cursor.{Cursor}
+use Rattle.turn.specs.declared.Shown.{Shown}
+use Rattle.turn.specs.declared.Step.{Step}
+use Rattle.turn.specs.declared.Step.the-variants.{First, Second, Changed, End, Refused}
 use Rattle.numbers.specs.Numbers.{refusalCode}
 
 -- ---- a cursor as fourteen numbers: two walks in the order of their fields, then the totals

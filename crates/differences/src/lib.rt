@@ -1,12 +1,12 @@
 // Comparisons as numbers for C: a cursor is fourteen numbers, a difference fifteen, and the answer of a step a code, with numbers in lent places.
 ghost use mathlib.Core.Path.{_≡_};
 ghost use Rattle.differences.specs.Differences.{walksIn, walksNumbers, nothing, fifteenOf, compareCode, compareCursor, compareNumbers, compareTotals};
-use compare::Cursor;
-use compare::Shown;
-use compare::Step;
-use compare::Totals;
 use report::Own;
 use report::Report;
+use turn::Cursor;
+use turn::Shown;
+use turn::Step;
+use turn::Totals;
 use walk::Walk;
 
 // The comparison cursor of fourteen numbers.

@@ -167,7 +167,7 @@ pub extern "C" fn hods_compare_start(one: &Numbers, two: &Numbers, cursor: &mut 
     ensures answer { λ r. ⌜ r ≡ 0 ⌝ }
     ensures cursor { λ _. ⌜ now (cursor .exit) ≡ walksNumbers (compareStart (recordIn (now (one .entry))) (recordIn (now (two .entry)))) ⌝ }
 {
-    let at = compare::Cursor::start(numbers::record_in(one), numbers::record_in(two));
+    let at = compare::start(numbers::record_in(one), numbers::record_in(two));
     *cursor = differences::walks_numbers(at);
     0
 }
@@ -189,7 +189,8 @@ pub extern "C" fn hods_compare_step(
     ensures totals { λ _. ⌜ now (totals .exit) ≡ compareTotals (compareStep (now (file1 .entry)) (recordIn (now (one .entry))) (now (file2 .entry)) (recordIn (now (two .entry))) (walksIn (now (cursor .entry)))) (now (totals .entry)) ⌝ }
 {
     let at = differences::walks_in(cursor);
-    let told = at.step(
+    let told = compare::step(
+        at,
         file1,
         numbers::record_in(one),
         file2,

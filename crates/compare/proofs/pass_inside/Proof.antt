@@ -4,10 +4,10 @@ use Rattle.entries.specs.declared.Place.{Place}
 use Rattle.book.specs.Book.{limitsOf, chunkBytes}
 use Rattle.walk.specs.Walk.{afterOf, weight}
 use Rattle.walk.specs.declared.Walk.{Walk}
-use Rattle.compare.specs.Compare.{bothAt, turned}
+use Rattle.turn.specs.Turn.{bothAt, turned}
+use Rattle.turn.specs.declared.Turn.the-variants.{On}
+use Rattle.turn.proofs.Falling.{turn-falls}
 use Rattle.compare.specs.Passing.{SameEntries, SameTold, Passed}
-use Rattle.compare.specs.declared.Turn.the-variants.{On}
-use Rattle.compare.proofs.Turning.{turn-falls}
 use Rattle.compare.proofs.Passing.{same-passed, passed-none, passed-more}
 use Rattle.compare.proofs.pass_inside.Statement.{statement}
 use Rattle.compare.proofs.pass_inside.Tie as tie

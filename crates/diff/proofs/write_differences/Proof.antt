@@ -1,6 +1,6 @@
 use borrow.Author.Needs.{needs}
 use mathlib.Core.Path.{sym, _∙_}
-use Rattle.compare.specs.Compare.{load}
+use Rattle.turn.specs.Turn.{load}
 use Rattle.diff.proofs.Ending.{next-lighter}
 use Rattle.diff.proofs.write_differences.Statement.{statement}
 use Rattle.diff.proofs.write_differences.Tie as tie

@@ -1,6 +1,6 @@
 use borrow.Author.Needs.{needs}
 use mathlib.Core.Path.{ap, _∙_}
-use Rattle.compare.specs.declared.Shown.{Shown}
+use Rattle.turn.specs.declared.Shown.{Shown}
 use Rattle.differences.specs.Differences.{fifteenOf}
 use Rattle.differences.proofs.tell_comparison.Statement.{statement}
 use Rattle.differences.proofs.tell_comparison.Tie as tie
