@@ -24,7 +24,9 @@ content-start-requires : tie.Need-content-start-requires
 content-start-requires c κs = search needs
 
 returns : tie.Need-returns
-returns c = cc
+returns c =
+    let g₁ = c .before in let g₂ = g₁ .before in let g₃ = g₂ .before in let g₄ = g₃ .before in let g₅ = g₄ .before in let g₆ = g₅ .before in
+    rw (c .content-start .ensures, g₁ .directory-length .ensures, g₂ .directory-start .ensures, g₃ .section-start .ensures, g₄ .language .ensures, g₅ .time .ensures, g₆ .version .ensures)
 
 pub fields-of-spec : {M : Type 1} → statement M
 fields-of-spec =
