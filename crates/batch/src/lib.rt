@@ -15,14 +15,14 @@ use opening::Opened;
 use refusals::Refusal;
 
 // What the call answers.
-#[derive(Drop)]
+#[derive(Clone, Copy)]
 pub enum Batched {
     Answered,
     Refused(Refusal),
 }
 
 // How many names there are, unless one is cut off.
-#[derive(Drop)]
+#[derive(Clone, Copy)]
 enum Counted {
     All(usize),
     Cut,

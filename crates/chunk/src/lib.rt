@@ -12,7 +12,7 @@ ghost use Rattle.chunk.specs.Answer.{chunk_of};
 use entries::{Item, Kind, Limits};
 
 // What a chunk is: refused with a number from 8 to 12, a listing chunk with the numbers of the one before and the one behind it, or an index chunk.
-#[derive(Drop)]
+#[derive(Clone, Copy)]
 pub enum Chunk {
     Refused(u8),
     Listing(u32, u32),
@@ -20,7 +20,7 @@ pub enum Chunk {
 }
 
 // An entry's index as a number of quick words, and how many entries it stands behind the last that has one.
-#[derive(Drop)]
+#[derive(Clone, Copy)]
 struct Mark {
     word: usize,
     past: usize,

@@ -19,7 +19,7 @@ use turn::{Cursor, Step, Totals, Turn};
 use walk::Walk;
 
 // Two entries that are the same in both books, in name and numbers.
-#[derive(Drop)]
+#[derive(Clone, Copy)]
 enum Same {
     Both(Place, Place),
     Other,

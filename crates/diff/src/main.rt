@@ -13,7 +13,7 @@ use opening::Opened;
 use turn::{Cursor, Shown, Step};
 
 // Where the comparison goes on behind a step: at a cursor, or nowhere.
-#[derive(Drop)]
+#[derive(Clone, Copy)]
 enum Next {
     At(Cursor),
     Over,

@@ -6,7 +6,7 @@ ghost use Rattle.fields.specs.Le.{le};
 ghost use Rattle.directory_header.specs.DirectoryHeader.{directory_tagged, within, bounds_right, ends_right, root_right, directory_right, directory_fields_of, directory_header_of};
 
 // What the directory's header says: the chunk size, density, depth, root, the first and the last listing chunk, the chunk count.
-#[derive(Drop)]
+#[derive(Clone, Copy)]
 pub struct DirectoryFields {
     pub size: u64,
     pub density: u64,
@@ -18,7 +18,7 @@ pub struct DirectoryFields {
 }
 
 // A directory's header that keeps the rules, or the number of the refusal, 6 or 7.
-#[derive(Drop)]
+#[derive(Clone, Copy)]
 pub enum CheckedDirectoryHeader {
     Good(DirectoryFields),
     Refused(u8),

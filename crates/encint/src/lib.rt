@@ -8,7 +8,7 @@ ghost use Rattle.encint.specs.Encint.{rest, encint_at, leading, encoded};
 ghost use Rattle.encint.specs.Padded.{ReadExact};
 
 // A number that was read, with the place behind it.
-#[derive(Drop)]
+#[derive(Clone, Copy)]
 pub enum Number {
     Value(u64, usize),
     Bad,

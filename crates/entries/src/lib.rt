@@ -7,14 +7,14 @@ ghost use Rattle.entries.specs.Entry.{name_at, listing_at, index_at, item_at};
 use encint::Number;
 
 // The two kinds of chunks, and so of entries.
-#[derive(Drop)]
+#[derive(Clone, Copy)]
 pub enum Kind {
     Listing,
     Index,
 }
 
 // What a directory's chunks are held to: the density of the quick words, the chunk count, the content's length.
-#[derive(Drop)]
+#[derive(Clone, Copy)]
 pub struct Limits {
     pub density: u64,
     pub count: u64,
@@ -22,7 +22,7 @@ pub struct Limits {
 }
 
 // Where an entry stands in its chunk, where its name does, and its numbers (those that its kind lacks are 0); `next` is the place behind it.
-#[derive(Drop)]
+#[derive(Clone, Copy)]
 pub struct Place {
     pub at: usize,
     pub start: usize,
@@ -35,7 +35,7 @@ pub struct Place {
 }
 
 // What stands at a place: an entry, or none that keeps the rules.
-#[derive(Drop)]
+#[derive(Clone, Copy)]
 pub enum Item {
     Good(Place),
     Bad,

@@ -5,7 +5,7 @@ ghost use Rattle.std.specs.Prelude.{◌≡◌, ◌+◌, ◌^◌, ◌<◌, leb};
 ghost use Rattle.file_header.specs.FileHeader.{version_field, header_end, time_field, language_field, section_start, section_length, directory_start, directory_length, content_start, file_tagged, version_right, placed, apart, lengths_right, places_right, content_right, sections_right, file_fields_of, file_header_of, section_zero_of};
 
 // What the file header says: version, time, language, where section 0 starts, start and length of the directory, where the content starts.
-#[derive(Drop)]
+#[derive(Clone, Copy)]
 pub struct FileFields {
     pub version: u64,
     pub time: u64,
@@ -17,14 +17,14 @@ pub struct FileFields {
 }
 
 // A file header that keeps the rules, or the number of the refusal, 1 to 4.
-#[derive(Drop)]
+#[derive(Clone, Copy)]
 pub enum CheckedFileHeader {
     Good(FileFields),
     Refused(u8),
 }
 
 // A section 0 that keeps the rule, or the number of the refusal, 5.
-#[derive(Drop)]
+#[derive(Clone, Copy)]
 pub enum CheckedSectionZero {
     Good,
     Refused(u8),

@@ -14,14 +14,14 @@ use entries::{Kind, Limits};
 use names::Order;
 
 // The group that halving leaves, and how many comparisons it made.
-#[derive(Drop)]
+#[derive(Clone, Copy)]
 struct Halved {
     group: usize,
     count: u32,
 }
 
 // A group of entries: where it begins, how many it has, and how many comparisons it took to choose it.
-#[derive(Drop)]
+#[derive(Clone, Copy)]
 pub struct Group {
     pub at: usize,
     pub size: usize,

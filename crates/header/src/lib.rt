@@ -9,7 +9,7 @@ use file_header::{CheckedFileHeader, CheckedSectionZero, FileFields};
 
 // What opening hands out: version, time, language, the directory's place, the chunk count, density, depth, root, the first and the last
 // listing chunk, and where the content starts.
-#[derive(Drop)]
+#[derive(Clone, Copy)]
 pub struct Record {
     pub version: u64,
     pub time: u64,
@@ -25,7 +25,7 @@ pub struct Record {
 }
 
 // Headers that keep the rules, or the number of the refusal, 1 to 7.
-#[derive(Drop)]
+#[derive(Clone, Copy)]
 pub enum CheckedHeader {
     Good(Record),
     Refused(u8),

@@ -14,14 +14,14 @@ use refusals::Refusal;
 use report::{Own, Report};
 
 // The chunk and the number of the entry to be reported next.
-#[derive(Drop)]
+#[derive(Clone, Copy)]
 pub struct Cursor {
     pub chunk: u64,
     pub entry: u64,
 }
 
 // What a step gives: an entry and the cursor moved on, the end with the cursor as it was, or a refusal.
-#[derive(Drop)]
+#[derive(Clone, Copy)]
 pub enum Step {
     Entry(Report, Cursor),
     End(Cursor),
@@ -29,7 +29,7 @@ pub enum Step {
 }
 
 // The own bytes of an entry; or there is no entry.
-#[derive(Drop)]
+#[derive(Clone, Copy)]
 pub enum Owned {
     At(Own),
     Nothing,

@@ -19,14 +19,14 @@ use search::Search;
 use seek::Child;
 
 // What a descent takes: how many chunks it goes through, and how many comparisons of the asked name it makes in them.
-#[derive(Drop)]
+#[derive(Clone, Copy)]
 pub struct Effort {
     pub chunks: u32,
     pub comparisons: u32,
 }
 
 // What a lookup answers, behind what its descent took.
-#[derive(Drop)]
+#[derive(Clone, Copy)]
 pub enum Answer {
     Found(Effort, Report),
     Absent(Effort),
@@ -34,7 +34,7 @@ pub enum Answer {
 }
 
 // The same without the effort, for a search that leaves no trail.
-#[derive(Drop)]
+#[derive(Clone, Copy)]
 pub enum Reply {
     Found(Report),
     Absent,
@@ -42,7 +42,7 @@ pub enum Reply {
 }
 
 // Where an index chunk leads a descent: down to a chunk, or nowhere; the number at the end is how many comparisons it took. `Barred` where it is no index chunk.
-#[derive(Drop)]
+#[derive(Clone, Copy)]
 enum Way {
     Down(u64, u32),
     Ends(u32),

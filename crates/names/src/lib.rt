@@ -7,7 +7,7 @@ ghost use Rattle.names.specs.Names.{folded, compared, below, matches, order_code
 ghost use Rattle.names.specs.Alike.{Reached};
 
 // How one name stands to another.
-#[derive(Drop)]
+#[derive(Clone, Copy)]
 pub enum Order {
     Less,
     Equal,

@@ -19,21 +19,21 @@ use quickref::Hit;
 use refusals::Refusal;
 
 // The record of a book that keeps every rule, or the first refusal.
-#[derive(Drop)]
+#[derive(Clone, Copy)]
 pub enum Opened {
     Book(Record),
     Refused(Refusal),
 }
 
 // What the pass over all chunks found: the first refusal and its chunk, or the number of listing chunks.
-#[derive(Drop)]
+#[derive(Clone, Copy)]
 enum Survey {
     Fault(u8, u32),
     Listings(u64),
 }
 
 // What a chunk of the chain leads to.
-#[derive(Drop)]
+#[derive(Clone, Copy)]
 enum Link {
     Broken,
     Last,
@@ -41,14 +41,14 @@ enum Link {
 }
 
 // How far the walk over the tree has come: the listing chunk that must come next, and how many index chunks are left.
-#[derive(Drop)]
+#[derive(Clone, Copy)]
 enum Progress {
     Stopped,
     Going(u64, u64),
 }
 
 // An entry of an index chunk: its child, which has the entry's name for its first, and the place behind the entry.
-#[derive(Drop)]
+#[derive(Clone, Copy)]
 enum NamedChild {
     Named(u64, usize),
     Other,

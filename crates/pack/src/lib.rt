@@ -11,7 +11,7 @@ use entries::{Item, Kind, Place};
 use source::Cursor;
 
 // The entries that a chunk takes: how many there are, the bytes that they take, and the cursor behind them: its place, and how many more may be taken.
-#[derive(Drop)]
+#[derive(Clone, Copy)]
 pub struct Extent {
     pub count: usize,
     pub bytes: usize,
@@ -20,7 +20,7 @@ pub struct Extent {
 }
 
 // The entry that a chunk takes next, with the bytes of its entries up to this one; or it is full: the next does not fit, or there is none.
-#[derive(Drop)]
+#[derive(Clone, Copy)]
 pub enum Fit {
     Entry(Place, usize),
     Full,

@@ -16,7 +16,7 @@ use refusals::Refusal;
 use report::Report;
 
 // What a page gives: how many entries it has and the chunk that follows; or that the lent slice is too short; or a refusal.
-#[derive(Drop)]
+#[derive(Clone, Copy)]
 pub enum Page {
     Entries(u32, u32),
     Short,

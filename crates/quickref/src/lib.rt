@@ -6,7 +6,7 @@ ghost use Rattle.quickref.specs.Quickref.{group_at, after_at, nth_in, first_in, 
 
 use entries::{Item, Kind, Limits, Place};
 
-#[derive(Drop)]
+#[derive(Clone, Copy)]
 pub enum Hit {
     At(Place),
     Nothing,

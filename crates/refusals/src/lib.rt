@@ -5,7 +5,7 @@ ghost use Rattle.std.specs.Prelude.{◌≡◌};
 ghost use Rattle.refusals.specs.Refusals.{no_chunk, refusal_of, refusal_at};
 
 // A refusal's number, and the chunk that it belongs to, or the number that stands for none.
-#[derive(Drop)]
+#[derive(Clone, Copy)]
 pub struct Refusal {
     pub number: u8,
     pub chunk: u32,

@@ -9,7 +9,7 @@ use entries::Place;
 use header::Record;
 
 // The five numbers of an entry: where its name stands in the file, the name's length, section, offset, length.
-#[derive(Drop)]
+#[derive(Clone, Copy)]
 pub struct Report {
     pub place: u64,
     pub length: u64,
@@ -19,7 +19,7 @@ pub struct Report {
 }
 
 // The own bytes of an entry: where they stand in the file, and how many there are.
-#[derive(Drop)]
+#[derive(Clone, Copy)]
 pub struct Own {
     pub place: u64,
     pub length: u64,

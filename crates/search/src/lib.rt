@@ -11,7 +11,7 @@ use report::Report;
 use seek::CountedChild;
 
 // What the search in the bytes of a chunk comes to; the number in front is how many comparisons of the asked name it made.
-#[derive(Drop)]
+#[derive(Clone, Copy)]
 pub enum Finding {
     Found(u32, Report),
     Nothing(u32),
@@ -19,7 +19,7 @@ pub enum Finding {
 
 // What the search for a name in one listing chunk comes to: its entry, or the number of the chunk's next; the number in front is how many comparisons
 // it made. `Barred` where there is no listing chunk.
-#[derive(Drop)]
+#[derive(Clone, Copy)]
 pub enum Search {
     Found(u32, Report),
     Next(u32, u32),

@@ -17,21 +17,21 @@ use names::Order;
 use quickref::Hit;
 
 // Where an index chunk leads for a name.
-#[derive(Drop)]
+#[derive(Clone, Copy)]
 pub enum Child {
     Below(u64),
     Nowhere,
 }
 
 // What a search for a name comes to, and how many comparisons of the asked name it made.
-#[derive(Drop)]
+#[derive(Clone, Copy)]
 pub struct CountedHit {
     pub hit: Hit,
     pub count: u32,
 }
 
 // Where an index chunk leads, and how many comparisons of the asked name that took.
-#[derive(Drop)]
+#[derive(Clone, Copy)]
 pub struct CountedChild {
     pub child: Child,
     pub count: u32,

@@ -9,7 +9,7 @@ use entries::{Item, Kind, Place};
 
 // How far the entries of a level are taken, and how many more may be. A listing level takes them from the input: `at` is the place of the next one.
 // An index level has one for each chunk so far: `at` is the number of the next chunk.
-#[derive(Drop)]
+#[derive(Clone, Copy)]
 pub struct Cursor {
     pub kind: Kind,
     pub at: usize,

@@ -12,7 +12,7 @@ use report::{Own, Report};
 use walk::{Coming, Walk};
 
 // How many names were only in the first book, only in the second, in both with the same numbers, in both with others; modulo 2^64.
-#[derive(Drop)]
+#[derive(Clone, Copy)]
 pub struct Totals {
     pub first: u64,
     pub second: u64,
@@ -21,7 +21,7 @@ pub struct Totals {
 }
 
 // A walk along each book, and the totals of what was passed.
-#[derive(Drop)]
+#[derive(Clone, Copy)]
 pub struct Cursor {
     pub first: Walk,
     pub second: Walk,
@@ -29,14 +29,14 @@ pub struct Cursor {
 }
 
 // An entry as it is told: its five numbers, and its own bytes.
-#[derive(Drop)]
+#[derive(Clone, Copy)]
 pub struct Shown {
     pub report: Report,
     pub own: Own,
 }
 
 // What a step gives: a difference with the cursor behind it, the end with the totals, or a refusal beside the number of its book.
-#[derive(Drop)]
+#[derive(Clone, Copy)]
 pub enum Step {
     First(Shown, Cursor),
     Second(Shown, Cursor),
@@ -46,7 +46,7 @@ pub enum Step {
 }
 
 // What one name gives: a step's answer, or nothing to tell, and the cursor behind it.
-#[derive(Drop)]
+#[derive(Clone, Copy)]
 pub enum Turn {
     Tell(Step),
     On(Cursor),

@@ -12,7 +12,7 @@ use header::Record;
 use refusals::Refusal;
 
 // The chunk that is being read, the place of its next entry and how many entries are left in it; the chunk that follows, and how many chunks may still be entered.
-#[derive(Drop)]
+#[derive(Clone, Copy)]
 pub struct Walk {
     pub chunk: u64,
     pub at: u64,
@@ -22,7 +22,7 @@ pub struct Walk {
 }
 
 // Where a walk comes to before it reads: inside a chunk, at the chain's end, or at a chunk that cannot be entered.
-#[derive(Drop)]
+#[derive(Clone, Copy)]
 enum Entered {
     Inside(Walk),
     Over,
@@ -30,7 +30,7 @@ enum Entered {
 }
 
 // What comes next: an entry, with the walk inside its chunk; the end; or a refusal.
-#[derive(Drop)]
+#[derive(Clone, Copy)]
 pub enum Coming {
     Entry(Place, Walk),
     End,

@@ -26,14 +26,14 @@ use refusals::Refusal;
 use source::Cursor;
 
 // The length of the head that was written, or a refusal: 18, 19 or 20.
-#[derive(Drop)]
+#[derive(Clone, Copy)]
 pub enum Written {
     Length(u64),
     Refused(Refusal),
 }
 
 // The listing chunks so far, as the input is read: their number, and the entries of the last one with their bytes.
-#[derive(Drop)]
+#[derive(Clone, Copy)]
 struct Open {
     chunks: usize,
     count: usize,
@@ -41,7 +41,7 @@ struct Open {
 }
 
 // The number of listing chunks; or the input is not one that the writer takes.
-#[derive(Drop)]
+#[derive(Clone, Copy)]
 enum Leaves {
     Count(usize),
     Bad,
@@ -49,7 +49,7 @@ enum Leaves {
 
 // What is known of the chunks before any is written: the number of listing chunks, the depth, the number of all chunks. Or there are too many.
 // Or the input is not one that the writer takes.
-#[derive(Drop)]
+#[derive(Clone, Copy)]
 enum Sizes {
     Chunks(usize, usize, usize),
     TooMany,

@@ -1,0 +1,87 @@
+use Rattle.fields.proofs.Base.{◌≡◌, sym, ap, ◌∙◌, ℕ, ◌+◌, ◌-◌, ◌*◌, ◌%◌, ◌^◌, ◌<◌, dec_lt, arith, length, get_or, drop}
+use Rattle.encint.specs.Encint.{rest}
+use Rattle.encint.proofs.Reading.{rest_spent, turn_past, turn_last, turn_more, grows, small}
+use Rattle.encint.proofs.groups_at.Goals as goal
+
+pub loop-i-init : goal.loop-i-init
+loop-i-init c = let a = c.args in
+    let z : a.at + 9 - a.at ≡ 9 = omega arith in
+    (omega arith, omega arith, rw z (omega arith), ap (λ (n : ℕ). rest n 0 a.at (drop a.at a.s.now)) (sym z))
+
+pub bounds-s-i : goal.bounds-s-i
+bounds-s-i c =
+    let inside : (let l = c.loop-i in let a = c.args in (l.i < length a.s.now) × (0 < a.at + 9 - l.i)) =
+    (omega (arith, c.reach-end.ensures), omega (arith, c.reach-end.ensures)) in
+    omega (arith, inside)
+
+pub overflow_mul-v : goal.overflow_mul-v
+overflow_mul-v c =
+    let inside : (let l = c.loop-i in let a = c.args in (l.i < length a.s.now) × (0 < a.at + 9 - l.i)) =
+    (omega (arith, c.reach-end.ensures), omega (arith, c.reach-end.ensures)) in
+    let grown : (let l = c.loop-i in let a = c.args in
+    l.v * 128 + get_or a.s.now l.i 0 % 128 < 128 ^ (9 - (a.at + 9 - l.i - 1))) =
+    let l = c.loop-i in
+    let a = c.args in
+    grows (a.at + 9 - l.i) l.v _ (inside).1 (omega arith) l.invariant.2 in
+    let fits : (let l = c.loop-i in l.v * 128 + get_or c.args.s.now l.i 0 % 128 < 2 ^ 63) =
+    small (c.args.at + 9 - c.loop-i.i - 1) _ (grown) in
+    omega (arith, fits)
+
+pub overflow_add-v : goal.overflow_add-v
+overflow_add-v c =
+    let inside : (let l = c.loop-i in let a = c.args in (l.i < length a.s.now) × (0 < a.at + 9 - l.i)) =
+    (omega (arith, c.reach-end.ensures), omega (arith, c.reach-end.ensures)) in
+    let grown : (let l = c.loop-i in let a = c.args in
+    l.v * 128 + get_or a.s.now l.i 0 % 128 < 128 ^ (9 - (a.at + 9 - l.i - 1))) =
+    let l = c.loop-i in
+    let a = c.args in
+    grows (a.at + 9 - l.i) l.v _ (inside).1 (omega arith) l.invariant.2 in
+    let fits : (let l = c.loop-i in l.v * 128 + get_or c.args.s.now l.i 0 % 128 < 2 ^ 63) =
+    small (c.args.at + 9 - c.loop-i.i - 1) _ (grown) in
+    omega (arith, fits)
+
+pub overflow_add-i : goal.overflow_add-i
+overflow_add-i c =
+    let inside : (let l = c.loop-i in let a = c.args in (l.i < length a.s.now) × (0 < a.at + 9 - l.i)) =
+    (omega (arith, c.reach-end.ensures), omega (arith, c.reach-end.ensures)) in
+    omega (arith, inside)
+
+pub returns-then-b-lt128 : goal.returns-then-b-lt128
+returns-then-b-lt128 c =
+    let inside : (let l = c.loop-i in let a = c.args in (l.i < length a.s.now) × (0 < a.at + 9 - l.i)) =
+    (omega (arith, c.reach-end.ensures), omega (arith, c.reach-end.ensures)) in
+    let l = c.loop-i in
+    let h = inside in
+    sym (l.invariant.3 ∙ turn_last _ _ l.v l.i h.1 h.0 (omega arith))
+
+pub loop-i-smaller : goal.loop-i-smaller
+loop-i-smaller c = omega arith
+
+pub loop-i-preserved : goal.loop-i-preserved
+loop-i-preserved c =
+    let inside : (let l = c.loop-i in let a = c.args in (l.i < length a.s.now) × (0 < a.at + 9 - l.i)) =
+    (omega (arith, c.reach-end.ensures), omega (arith, c.reach-end.ensures)) in
+    let grown : (let l = c.loop-i in let a = c.args in
+    l.v * 128 + get_or a.s.now l.i 0 % 128 < 128 ^ (9 - (a.at + 9 - l.i - 1))) =
+    let l = c.loop-i in
+    let a = c.args in
+    grows (a.at + 9 - l.i) l.v _ (inside).1 (omega arith) l.invariant.2 in
+    let l = c.loop-i in
+    let a = c.args in
+    let h = inside in
+    let z : a.at + 9 - l.i - 1 ≡ a.at + 9 - (l.i + 1) = omega arith in (
+      omega arith,
+      omega arith,
+      rw z at (grown),
+      l.invariant.3 ∙ turn_more _ _ l.v l.i h.1 h.0 (omega arith)
+          ∙ ap (λ (n : ℕ). rest n (l.v * 128 + get_or a.s.now l.i 0 % 128) (l.i + 1) (drop (l.i + 1) a.s.now)) z,
+    )
+
+-- behind the last place that a number could have
+pub returns : goal.returns
+returns c = let l = c.loop-i in
+    let a = c.args in
+    elim (dec_lt l.i (length a.s.now)) [
+      | yes h ↦ sym (l.invariant.3 ∙ rest_spent _ l.v l.i _ (omega (arith, c.reach-end.ensures)))
+      | no h ↦ sym (l.invariant.3 ∙ turn_past _ _ l.v l.i (omega arith))
+    ]

@@ -1,0 +1,25 @@
+use Rattle.fields.proofs.Base.{sym, ◌∙◌, now}
+use Rattle.book.proofs.Checked.{Linked, checked_listing, checked_no_listing}
+use Rattle.search.proofs.Searching.{search_found, search_next, search_barred}
+use Rattle.search.proofs.search_in.Goals as goal
+
+pub returns-in_default : goal.returns-in_default
+returns-in_default c = let a = c.args in
+    search_barred a.file.now a.book a.name.now a.c
+    (checked_no_listing a.file.now a.book a.c c.checked_chunk.result c.checked_chunk.ensures c.in_default.keys2)
+
+pub returns-in-Found : goal.returns-in-Found
+returns-in-Found c =
+    let linked_is : let a = c.args in
+    Linked a.file.now a.book a.c c.in-Listing.field-0 c.in-Listing.next =
+    checked_listing _ _ _ _ _ (sym c.checked_chunk.ensures ∙ c.in-Listing.is) in
+    let a = c.args in
+    search_found a.file.now a.book a.name.now a.c (linked_is).below _ _ (sym c.find_in.ensures ∙ c.in-Found.is)
+
+pub returns-in-Nothing : goal.returns-in-Nothing
+returns-in-Nothing c =
+    let linked_is : let a = c.args in
+    Linked a.file.now a.book a.c c.in-Listing.field-0 c.in-Listing.next =
+    checked_listing _ _ _ _ _ (sym c.checked_chunk.ensures ∙ c.in-Listing.is) in
+    let a = c.args in
+    search_next a.file.now a.book a.name.now a.c (linked_is).below _ _ (linked_is).next_is (sym c.find_in.ensures ∙ c.in-Nothing.is)

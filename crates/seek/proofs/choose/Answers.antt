@@ -1,0 +1,277 @@
+use Rattle.fields.proofs.Base.{◌≡◌, refl, sym, ap, ap₂, ◌∙◌, ℕ, ◌+◌, ◌-◌, ◌≤◌, ◌<◌, add-sub_cancel_left, arith, length, now}
+use Rattle.fields.specs.Part.{part}
+use Rattle.fields.proofs.Le.{le_lt}
+use Rattle.names.specs.Names.{compared}
+use Rattle.encint.specs.Encint.{encint_at}
+use Rattle.encint.specs.declared.Number.TheVariants.{Value}
+use Rattle.entries.specs.Entry.{name_at, index_at, item_at, with_item}
+use Rattle.entries.specs.declared.Item.TheVariants.{Good, Bad}
+use Rattle.entries.proofs.Laws.{name_next, index_broken, index_wide, index_whole}
+use Rattle.entries.specs.declared.Kind.TheVariants.{Index}
+use Rattle.chunk_fields.specs.ChunkFields.{count_place}
+use Rattle.quickref.specs.Quickref.{group_at}
+use Rattle.quickref.specs.declared.Hit.{Hit}
+use Rattle.quickref.specs.declared.Hit.TheVariants.{At, Nothing}
+use Rattle.halving.specs.Halving.{group_in, size_in}
+use Rattle.halving.specs.Halvings.{halvings_in}
+use Rattle.seek.specs.Seek.{choose_in, child_of}
+use Rattle.seek.specs.Count.{cost_in}
+use Rattle.seek.specs.declared.CountedHit.{CountedHit}
+use Rattle.seek.specs.declared.CountedChild.{CountedChild}
+use Rattle.seek.specs.declared.Child.{Child}
+use Rattle.seek.specs.declared.Child.TheVariants.{Below}
+use Rattle.seek.proofs.Counts.{spent_in, spent_next, spent_is, spent_fits}
+use Rattle.seek.proofs.Steps.{choose_from, choose_end, choose_unnamed, choose_above, choose_equal, choose_barred, choose_on}
+use Rattle.seek.proofs.choose.Goals as goal
+
+-- the child of what was chosen, beside the count
+abbrev child_from : CountedHit → CountedChild
+child_from r = record { child = child_of r.hit; count = r.count }
+
+-- the search ends with the best child
+ended : (r : CountedChild) (best : Child) (h : Hit) (n m : ℕ) (w : CountedHit) → r ≡ record { child = best; count = n } → n ≡ m → best ≡ child_of h
+    → record { hit = h; count = m } ≡ w → r ≡ child_from w
+ended r best h n m w e p b q = e ∙ ap₂ (λ (x : Child) (y : ℕ). record { child = x; count = y }) b p ∙ ap child_from q
+
+pub loop-left-init : goal.loop-left-init
+unfolding cost_in
+loop-left-init c = let a = c.args in
+    let s = size_in a.limits a.c.now (group_in a.limits Index a.c.now (compared a.name.now)) in
+    let z : spent_in a.limits Index a.c.now (compared a.name.now) s ≡ halvings_in a.limits Index a.c.now (compared a.name.now) = omega arith in (
+      Nothing,
+      refl,
+      rw (c.group_for-group.ensures.0, c.group_for-group.ensures.1)
+          (ap (λ (n : ℕ). choose_from a.limits a.c.now (compared a.name.now) Nothing n s (group_at Index a.c.now (group_in a.limits Index a.c.now (compared a.name.now)))) z),
+      omega (arith, c.group_for-group.ensures.1),
+    )
+
+pub child_of-requires : goal.child_of-requires
+child_of-requires c =
+    let room : (left : ℕ) → left ≤ c.loop-left.left
+    → (left ≤ c.group_for-group.result.size) × (c.group_for-group.result.size < 65536) × (c.group_for-group.result.count < 65536) =
+    λ left h. let a = c.args in
+    spent_fits a.limits Index a.c.now (compared a.name.now) _ _ c.group_for-group.ensures.1 c.group_for-group.ensures.2
+    (le_lt a.c.now (λ j. (c.type_inv.c j).fits) 2 count_place) left (omega (arith, h, c.??.loop.invariant.3)) in
+    room _ (omega arith)
+
+pub returns-in_default : goal.returns-in_default
+returns-in_default c =
+    let spent_told : (left : ℕ) → let a = c.args in
+    c.group_for-group.result.count + (c.group_for-group.result.size - left) ≡ spent_in a.limits Index a.c.now (compared a.name.now) left =
+    λ left. let a = c.args in
+    spent_is a.limits Index a.c.now (compared a.name.now) _ _ c.group_for-group.ensures.1 c.group_for-group.ensures.2 left in
+    let a = c.args in
+    let i = c.loop-left.invariant in
+    ended _ _ _ _ _ _ c.child_of.ensures (spent_told c.loop-left.left) i.1
+    (sym (choose_unnamed a.limits a.c.now (compared a.name.now) i.0 (spent_in a.limits Index a.c.now (compared a.name.now) c.loop-left.left) c.loop-left.left c.loop-left.at c.loop-left-test.true (sym c.name_at.ensures ∙ c.in_default.is)) ∙ i.2)
+
+pub overflow_add-behind : goal.overflow_add-behind
+overflow_add-behind c =
+    let name_is : let a = c.args in
+    name_at a.c.now c.loop-left.at ≡ Value c.in-Value.n c.in-Value.from =
+    sym c.name_at.ensures ∙ c.in-Value.is in
+    let inside : c.in-Value.from + c.in-Value.n ≤ length c.args.c.now =
+    (name_next _ _ _ _ (name_is)).2 in
+    omega (arith, inside)
+
+pub overflow_sub-left : goal.overflow_sub-left
+overflow_sub-left c = omega arith
+
+pub slice_bounds-compare-count : goal.slice_bounds-compare-count
+slice_bounds-compare-count c =
+    let name_is : let a = c.args in
+    name_at a.c.now c.loop-left.at ≡ Value c.in-Value.n c.in-Value.from =
+    sym c.name_at.ensures ∙ c.in-Value.is in
+    let inside : c.in-Value.from + c.in-Value.n ≤ length c.args.c.now =
+    (name_next _ _ _ _ (name_is)).2 in
+    omega (arith, inside)
+
+pub slice_bounds-compare-start : goal.slice_bounds-compare-start
+slice_bounds-compare-start c =
+    let name_is : let a = c.args in
+    name_at a.c.now c.loop-left.at ≡ Value c.in-Value.n c.in-Value.from =
+    sym c.name_at.ensures ∙ c.in-Value.is in
+    let inside : c.in-Value.from + c.in-Value.n ≤ length c.args.c.now =
+    (name_next _ _ _ _ (name_is)).2 in
+    omega (arith, inside)
+
+pub slice_bounds-compare-end : goal.slice_bounds-compare-end
+slice_bounds-compare-end c =
+    let name_is : let a = c.args in
+    name_at a.c.now c.loop-left.at ≡ Value c.in-Value.n c.in-Value.from =
+    sym c.name_at.ensures ∙ c.in-Value.is in
+    let inside : c.in-Value.from + c.in-Value.n ≤ length c.args.c.now =
+    (name_next _ _ _ _ (name_is)).2 in
+    omega (arith, inside)
+
+pub child_of-requires-in-Less : goal.child_of-requires-in-Less
+child_of-requires-in-Less c =
+    let room : (left : ℕ) → left ≤ c.loop-left.left
+    → (left ≤ c.group_for-group.result.size) × (c.group_for-group.result.size < 65536) × (c.group_for-group.result.count < 65536) =
+    λ left h. let a = c.args in
+    spent_fits a.limits Index a.c.now (compared a.name.now) _ _ c.group_for-group.ensures.1 c.group_for-group.ensures.2
+    (le_lt a.c.now (λ j. (c.type_inv.c j).fits) 2 count_place) left (omega (arith, h, c.??.loop.invariant.3)) in
+    room _ (omega arith)
+
+pub returns-in-Less : goal.returns-in-Less
+returns-in-Less c =
+    let spent_told : (left : ℕ) → let a = c.args in
+    c.group_for-group.result.count + (c.group_for-group.result.size - left) ≡ spent_in a.limits Index a.c.now (compared a.name.now) left =
+    λ left. let a = c.args in
+    spent_is a.limits Index a.c.now (compared a.name.now) _ _ c.group_for-group.ensures.1 c.group_for-group.ensures.2 left in
+    let name_is : let a = c.args in
+    name_at a.c.now c.loop-left.at ≡ Value c.in-Value.n c.in-Value.from =
+    sym c.name_at.ensures ∙ c.in-Value.is in
+    let compared_is : let a = c.args in
+    c.compare.result ≡ compared a.name.now (part a.c.now c.in-Value.from c.in-Value.n) =
+    simp add-sub_cancel_left at c.compare.ensures in
+    let a = c.args in
+    let i = c.loop-left.invariant in
+    ended _ _ _ _ _ _ c.child_of-in-Less.ensures (spent_told (c.loop-left.left - 1)) i.1
+    (sym (choose_above a.limits a.c.now (compared a.name.now) i.0 (spent_in a.limits Index a.c.now (compared a.name.now) c.loop-left.left) c.loop-left.left c.loop-left.at _ _ c.loop-left-test.true (name_is) _
+    (spent_next a.limits Index a.c.now (compared a.name.now) c.loop-left.left c.loop-left-test.true i.3) (sym (compared_is) ∙ c.in-Less.is)) ∙ i.2)
+
+pub child_of-requires-in-Equal : goal.child_of-requires-in-Equal
+child_of-requires-in-Equal c =
+    let room : (left : ℕ) → left ≤ c.loop-left.left
+    → (left ≤ c.group_for-group.result.size) × (c.group_for-group.result.size < 65536) × (c.group_for-group.result.count < 65536) =
+    λ left h. let a = c.args in
+    spent_fits a.limits Index a.c.now (compared a.name.now) _ _ c.group_for-group.ensures.1 c.group_for-group.ensures.2
+    (le_lt a.c.now (λ j. (c.type_inv.c j).fits) 2 count_place) left (omega (arith, h, c.??.loop.invariant.3)) in
+    room _ (omega arith)
+
+pub returns-in-Equal : goal.returns-in-Equal
+returns-in-Equal c =
+    let spent_told : (left : ℕ) → let a = c.args in
+    c.group_for-group.result.count + (c.group_for-group.result.size - left) ≡ spent_in a.limits Index a.c.now (compared a.name.now) left =
+    λ left. let a = c.args in
+    spent_is a.limits Index a.c.now (compared a.name.now) _ _ c.group_for-group.ensures.1 c.group_for-group.ensures.2 left in
+    let name_is : let a = c.args in
+    name_at a.c.now c.loop-left.at ≡ Value c.in-Value.n c.in-Value.from =
+    sym c.name_at.ensures ∙ c.in-Value.is in
+    let compared_is : let a = c.args in
+    c.compare.result ≡ compared a.name.now (part a.c.now c.in-Value.from c.in-Value.n) =
+    simp add-sub_cancel_left at c.compare.ensures in
+    let a = c.args in
+    let i = c.loop-left.invariant in
+    let e = choose_equal a.limits a.c.now (compared a.name.now) i.0 (spent_in a.limits Index a.c.now (compared a.name.now) c.loop-left.left) c.loop-left.left c.loop-left.at _ _ c.loop-left-test.true (name_is) _
+    (spent_next a.limits Index a.c.now (compared a.name.now) c.loop-left.left c.loop-left-test.true i.3) (sym (compared_is) ∙ c.in-Equal.is) in
+    c.child_of-in-Equal.ensures
+    ∙ ap₂ (λ (x : Child) (m : ℕ). record { child = x; count = m })
+    (c.child_at.ensures ∙ ap (λ x. with_item (index_at a.limits.count a.c.now c.loop-left.at) x (λ e. Below e.child)) i.1 ∙ e.0) (spent_told (c.loop-left.left - 1) ∙ e.1)
+    ∙ ap child_from i.2
+
+pub child_of-requires-in_default-read : goal.child_of-requires-in_default-read
+child_of-requires-in_default-read c =
+    let room : (left : ℕ) → left ≤ c.loop-left.left
+    → (left ≤ c.group_for-group.result.size) × (c.group_for-group.result.size < 65536) × (c.group_for-group.result.count < 65536) =
+    λ left h. let a = c.args in
+    spent_fits a.limits Index a.c.now (compared a.name.now) _ _ c.group_for-group.ensures.1 c.group_for-group.ensures.2
+    (le_lt a.c.now (λ j. (c.type_inv.c j).fits) 2 count_place) left (omega (arith, h, c.??.loop.invariant.3)) in
+    room _ (omega arith)
+
+pub returns-in_default-read : goal.returns-in_default-read
+returns-in_default-read c =
+    let spent_told : (left : ℕ) → let a = c.args in
+    c.group_for-group.result.count + (c.group_for-group.result.size - left) ≡ spent_in a.limits Index a.c.now (compared a.name.now) left =
+    λ left. let a = c.args in
+    spent_is a.limits Index a.c.now (compared a.name.now) _ _ c.group_for-group.ensures.1 c.group_for-group.ensures.2 left in
+    let name_is : let a = c.args in
+    name_at a.c.now c.loop-left.at ≡ Value c.in-Value.n c.in-Value.from =
+    sym c.name_at.ensures ∙ c.in-Value.is in
+    let compared_is : let a = c.args in
+    c.compare.result ≡ compared a.name.now (part a.c.now c.in-Value.from c.in-Value.n) =
+    simp add-sub_cancel_left at c.compare.ensures in
+    let barred_is : (x : CountedChild) → let a = c.args in let g = c.group_for-group.result in
+    x ≡ record { child = c.loop-left.best; count = g.count + (g.size - (c.loop-left.left - 1)) } → item_at a.limits Index a.c.now c.loop-left.at ≡ Bad
+    → x ≡ child_from (record { hit = choose_in a.limits a.c.now (compared a.name.now); count = cost_in a.limits Index a.c.now (compared a.name.now) }) =
+    λ x e g. let a = c.args in
+    let i = c.loop-left.invariant in
+    ended _ _ _ _ _ _ e (spent_told (c.loop-left.left - 1)) i.1
+    (sym (choose_barred a.limits a.c.now (compared a.name.now) i.0 (spent_in a.limits Index a.c.now (compared a.name.now) c.loop-left.left) c.loop-left.left c.loop-left.at _ _ c.loop-left-test.true (name_is) _
+    (spent_next a.limits Index a.c.now (compared a.name.now) c.loop-left.left c.loop-left-test.true i.3) (sym (compared_is) ∙ c.in-Greater.is) g) ∙ i.2) in
+    let a = c.args in
+    barred_is _ c.child_of-in_default-read.ensures
+    (index_broken a.limits a.c.now c.loop-left.at _ _ (name_is) (sym c.read.ensures.number ∙ c.in_default-read.is))
+
+pub child_of-requires-then-limits-child : goal.child_of-requires-then-limits-child
+child_of-requires-then-limits-child c =
+    let room : (left : ℕ) → left ≤ c.loop-left.left
+    → (left ≤ c.group_for-group.result.size) × (c.group_for-group.result.size < 65536) × (c.group_for-group.result.count < 65536) =
+    λ left h. let a = c.args in
+    spent_fits a.limits Index a.c.now (compared a.name.now) _ _ c.group_for-group.ensures.1 c.group_for-group.ensures.2
+    (le_lt a.c.now (λ j. (c.type_inv.c j).fits) 2 count_place) left (omega (arith, h, c.??.loop.invariant.3)) in
+    room _ (omega arith)
+
+pub returns-then-limits-child : goal.returns-then-limits-child
+returns-then-limits-child c =
+    let spent_told : (left : ℕ) → let a = c.args in
+    c.group_for-group.result.count + (c.group_for-group.result.size - left) ≡ spent_in a.limits Index a.c.now (compared a.name.now) left =
+    λ left. let a = c.args in
+    spent_is a.limits Index a.c.now (compared a.name.now) _ _ c.group_for-group.ensures.1 c.group_for-group.ensures.2 left in
+    let name_is : let a = c.args in
+    name_at a.c.now c.loop-left.at ≡ Value c.in-Value.n c.in-Value.from =
+    sym c.name_at.ensures ∙ c.in-Value.is in
+    let compared_is : let a = c.args in
+    c.compare.result ≡ compared a.name.now (part a.c.now c.in-Value.from c.in-Value.n) =
+    simp add-sub_cancel_left at c.compare.ensures in
+    let number_is : let a = c.args in
+    encint_at a.c.now (c.in-Value.from + c.in-Value.n) ≡ Value c.in-Value-read.child c.in-Value-read.next =
+    sym c.read.ensures.number ∙ c.in-Value-read.is in
+    let barred_is : (x : CountedChild) → let a = c.args in let g = c.group_for-group.result in
+    x ≡ record { child = c.loop-left.best; count = g.count + (g.size - (c.loop-left.left - 1)) } → item_at a.limits Index a.c.now c.loop-left.at ≡ Bad
+    → x ≡ child_from (record { hit = choose_in a.limits a.c.now (compared a.name.now); count = cost_in a.limits Index a.c.now (compared a.name.now) }) =
+    λ x e g. let a = c.args in
+    let i = c.loop-left.invariant in
+    ended _ _ _ _ _ _ e (spent_told (c.loop-left.left - 1)) i.1
+    (sym (choose_barred a.limits a.c.now (compared a.name.now) i.0 (spent_in a.limits Index a.c.now (compared a.name.now) c.loop-left.left) c.loop-left.left c.loop-left.at _ _ c.loop-left-test.true (name_is) _
+    (spent_next a.limits Index a.c.now (compared a.name.now) c.loop-left.left c.loop-left-test.true i.3) (sym (compared_is) ∙ c.in-Greater.is) g) ∙ i.2) in
+    let a = c.args in
+    barred_is _ c.child_of-then-limits-child.ensures (index_wide a.limits a.c.now c.loop-left.at _ _ (name_is) _ _ (number_is) c.if-limits-child.true)
+
+pub loop-left-smaller : goal.loop-left-smaller
+loop-left-smaller c = omega arith
+
+pub loop-left-preserved : goal.loop-left-preserved
+loop-left-preserved c =
+    let name_is : let a = c.args in
+    name_at a.c.now c.loop-left.at ≡ Value c.in-Value.n c.in-Value.from =
+    sym c.name_at.ensures ∙ c.in-Value.is in
+    let compared_is : let a = c.args in
+    c.compare.result ≡ compared a.name.now (part a.c.now c.in-Value.from c.in-Value.n) =
+    simp add-sub_cancel_left at c.compare.ensures in
+    let number_is : let a = c.args in
+    encint_at a.c.now (c.in-Value.from + c.in-Value.n) ≡ Value c.in-Value-read.child c.in-Value-read.next =
+    sym c.read.ensures.number ∙ c.in-Value-read.is in
+    let read_is : let a = c.args in
+    item_at a.limits Index a.c.now c.loop-left.at
+    ≡ Good (record { at = c.loop-left.at; start = c.in-Value.from; len = c.in-Value.n; section = 0; offset = 0; size = 0; child = c.in-Value-read.child; next = c.in-Value-read.next }) =
+    let a = c.args in
+    index_whole a.limits a.c.now c.loop-left.at _ _ (name_is) _ _ (number_is) c.if-limits-child.false in
+    let a = c.args in
+    let i = c.loop-left.invariant in (
+      At (record { at = c.loop-left.at; start = c.in-Value.from; len = c.in-Value.n; section = 0; offset = 0; size = 0; child = c.in-Value-read.child; next = c.in-Value-read.next }),
+      refl,
+      sym (choose_on a.limits a.c.now (compared a.name.now) i.0 (spent_in a.limits Index a.c.now (compared a.name.now) c.loop-left.left) c.loop-left.left c.loop-left.at _ _ c.loop-left-test.true (name_is) _
+          (spent_next a.limits Index a.c.now (compared a.name.now) c.loop-left.left c.loop-left-test.true i.3) (sym (compared_is) ∙ c.in-Greater.is) _ (read_is)) ∙ i.2,
+      omega (arith, i.3),
+    )
+
+pub child_of-requires-2 : goal.child_of-requires-2
+child_of-requires-2 c =
+    let room : (left : ℕ) → left ≤ c.loop-left.left
+    → (left ≤ c.group_for-group.result.size) × (c.group_for-group.result.size < 65536) × (c.group_for-group.result.count < 65536) =
+    λ left h. let a = c.args in
+    spent_fits a.limits Index a.c.now (compared a.name.now) _ _ c.group_for-group.ensures.1 c.group_for-group.ensures.2
+    (le_lt a.c.now (λ j. (c.type_inv.c j).fits) 2 count_place) left (omega (arith, h, c.??.loop.invariant.3)) in
+    room _ (omega arith)
+
+pub returns : goal.returns
+returns c =
+    let spent_told : (left : ℕ) → let a = c.args in
+    c.group_for-group.result.count + (c.group_for-group.result.size - left) ≡ spent_in a.limits Index a.c.now (compared a.name.now) left =
+    λ left. let a = c.args in
+    spent_is a.limits Index a.c.now (compared a.name.now) _ _ c.group_for-group.ensures.1 c.group_for-group.ensures.2 left in
+    let a = c.args in
+    let i = c.loop-left.invariant in
+    ended _ _ _ _ _ _ c.child_of-2.ensures (spent_told c.loop-left.left) i.1 (sym (choose_end a.limits a.c.now (compared a.name.now) i.0 (spent_in a.limits Index a.c.now (compared a.name.now) c.loop-left.left) c.loop-left.left c.loop-left.at c.loop-left-test.false) ∙ i.2)

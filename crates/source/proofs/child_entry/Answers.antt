@@ -1,0 +1,15 @@
+use Rattle.fields.proofs.Base.{sym, ◌∙◌, lt-ltb, le-ltb}
+use Rattle.source.specs.Source.{index_entry_for}
+use Rattle.source.proofs.child_entry.Goals as goal
+
+pub returns-then-starts-c : goal.returns-then-starts-c
+unfolding index_entry_for
+returns-then-starts-c c = simp (le-ltb _ _ c.if-starts-c.true)
+
+pub returns-in_default : goal.returns-in_default
+unfolding index_entry_for
+returns-in_default c = simp (lt-ltb _ _ c.if-starts-c.false, sym c.name_at.ensures ∙ c.in_default.is)
+
+pub returns : goal.returns
+unfolding index_entry_for
+returns c = simp (lt-ltb _ _ c.if-starts-c.false, sym c.name_at.ensures ∙ c.in-Value.is)

@@ -1,0 +1,4 @@
+use Rattle.turn.proofs.one_second.Goals as goal
+
+pub returns : goal.returns
+returns c = rw c.one_more.ensures

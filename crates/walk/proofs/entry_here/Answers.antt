@@ -1,0 +1,26 @@
+use Rattle.fields.proofs.Base.{◌≡◌, sym, ap, ◌∙◌, now}
+use Rattle.entries.specs.Entry.{item_at}
+use Rattle.entries.specs.declared.Kind.TheVariants.{Listing}
+use Rattle.book.specs.Book.{limits_of, chunk_bytes}
+use Rattle.walk.specs.declared.Coming.TheVariants.{Refused}
+use Rattle.walk.proofs.Entering.{here_entry, here_none}
+use Rattle.walk.proofs.entry_here.Goals as goal
+
+pub returns-in-Good : goal.returns-in-Good
+unfolding item_at
+returns-in-Good c =
+    let item_is : let a = c.args in
+    c.listing_at.result ≡ item_at (limits_of a.file.now a.book) Listing (chunk_bytes a.file.now a.book a.w.chunk) a.w.at =
+    rw (← c.limits-limits.ensures, ← c.??.chunk_bytes_lem.ensures) c.listing_at.ensures in
+    let a = c.args in
+    sym (here_entry a.file.now a.book a.w _ (sym (item_is) ∙ c.in-Good.is))
+
+pub returns-in-Bad : goal.returns-in-Bad
+unfolding item_at
+returns-in-Bad c =
+    let item_is : let a = c.args in
+    c.listing_at.result ≡ item_at (limits_of a.file.now a.book) Listing (chunk_bytes a.file.now a.book a.w.chunk) a.w.at =
+    rw (← c.limits-limits.ensures, ← c.??.chunk_bytes_lem.ensures) c.listing_at.ensures in
+    let a = c.args in
+    ap Refused c.no_reading.ensures
+    ∙ sym (here_none a.file.now a.book a.w (sym (item_is) ∙ c.in-Bad.is))

@@ -1,0 +1,27 @@
+use Rattle.fields.proofs.Base.{arith}
+use Rattle.writer.proofs.Indexing.{indexing_start, indexing_end, indexing_room, indexing_some, indexing_turn}
+use Rattle.writer.proofs.put_index.Goals as goal
+
+pub loop-end-init : goal.loop-end-init
+loop-end-init c = indexing_start _ _ _ _ _ _ _ c.requires.0 c.requires.1
+
+pub overflow_sub-end : goal.overflow_sub-end
+overflow_sub-end c = omega (arith, c.loop-end.invariant.size)
+
+pub overflow_sub-left : goal.overflow_sub-left
+overflow_sub-left c = omega (arith, c.loop-end-test.true)
+
+pub put_level-next-requires : goal.put_level-next-requires
+put_level-next-requires c = indexing_room _ _ _ _ _ _ _ c.requires.0 _ _ _ c.loop-end.invariant c.loop-end-test.true
+
+pub loop-end-smaller : goal.loop-end-smaller
+loop-end-smaller c = let r = c.put_level-next in let x = indexing_some _ _ _ _ _ _ _ c.requires.0 _ _ _ c.loop-end.invariant c.loop-end-test.true _ r.ensures.0 in omega (arith, x.0, x.1)
+
+pub loop-end-preserved : goal.loop-end-preserved
+loop-end-preserved c = let r = c.put_level-next in indexing_turn _ _ _ _ _ _ _ c.requires.0 _ _ _ c.loop-end.invariant c.loop-end-test.true _ _ r.auto.0 r.ensures.0 r.ensures.1
+
+pub shape_of-out : goal.shape_of-out
+shape_of-out c = c.loop-end.invariant.kept
+
+pub returns : goal.returns
+returns c = indexing_end _ _ _ _ _ _ _ c.requires.0 _ _ _ c.loop-end.invariant c.loop-end-test.false
