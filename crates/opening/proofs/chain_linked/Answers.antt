@@ -1,4 +1,4 @@
-use Rattle.fields.proofs.Base.{eq-eqb, ne_eqb, ◌≡◌, sym, ap, ◌∙◌, arith, ◌-◌, now}
+use Rattle.fields.proofs.Base.{eq-eqb, ne_eqb, ◌≡◌, sym, ap, ◌∙◌, arith, ◌-◌}
 use Rattle.refusals.specs.Refusals.{no_chunk}
 use Rattle.tree.specs.Walk.{chain_run}
 use Rattle.tree.proofs.Steps.{run_none}

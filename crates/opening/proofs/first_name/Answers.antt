@@ -1,4 +1,4 @@
-use Rattle.fields.proofs.Base.{subst, add-sub_cancel_left, arith, ◌+◌, ◌≤◌, length, now}
+use Rattle.fields.proofs.Base.{subst, add-sub_cancel_left, arith, ◌+◌, ◌≤◌, length}
 use Rattle.quickref.specs.declared.Hit.TheVariants.{At}
 use Rattle.opening.specs.Passes.{FirstHit}
 use Rattle.opening.proofs.first_name.Goals as goal

@@ -1,4 +1,4 @@
-use Rattle.fields.proofs.Base.{now}
+
 use Rattle.opening.proofs.Firsts.{first_of_good}
 use Rattle.opening.proofs.first_of.Goals as goal
 

@@ -1,4 +1,4 @@
-use Rattle.fields.proofs.Base.{sym, ap, ◌∙◌, arith, now}
+use Rattle.fields.proofs.Base.{sym, ap, ◌∙◌, arith}
 use Rattle.chunk_fields.specs.ChunkFields.{kind_of}
 use Rattle.tree.proofs.Chunks.{past_count}
 use Rattle.book.specs.Book.{directory_of, shape_of}

@@ -1,4 +1,4 @@
-use Rattle.fields.proofs.Base.{rules, ◌≡◌, sym, ◌∙◌, add-sub_cancel_left, arith, ◌+◌, ◌≤◌, ◌<◌, length, now}
+use Rattle.fields.proofs.Base.{rules, ◌≡◌, sym, ◌∙◌, add-sub_cancel_left, arith, ◌+◌, ◌≤◌, ◌<◌, length}
 use Rattle.fields.specs.Same.{same}
 use Rattle.entries.specs.Entry.{item_at, name_of}
 use Rattle.entries.specs.declared.Item.TheVariants.{Good}

@@ -1,4 +1,4 @@
-use Rattle.fields.proofs.Base.{◌≡◌, sym, ◌∙◌, add-sub_cancel_left, arith, ◌+◌, ◌≤◌, length, now}
+use Rattle.fields.proofs.Base.{◌≡◌, sym, ◌∙◌, add-sub_cancel_left, arith, ◌+◌, ◌≤◌, length}
 use Rattle.entries.specs.declared.Kind.TheVariants.{Listing}
 use Rattle.quickref.specs.Quickref.{last_in}
 use Rattle.tree.specs.Shape.{last_name}

@@ -1,4 +1,4 @@
-use Rattle.fields.proofs.Base.{eq-eqb, ne_eqb, ◌≡◌, sym, ◌∙◌, now}
+use Rattle.fields.proofs.Base.{eq-eqb, ne_eqb, ◌≡◌, sym, ◌∙◌}
 use Rattle.refusals.specs.Refusals.{no_chunk}
 use Rattle.tree.specs.Tree.{top}
 use Rattle.tree.specs.Walk.{walk_tree}

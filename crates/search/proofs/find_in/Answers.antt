@@ -1,4 +1,4 @@
-use Rattle.fields.proofs.Base.{◌≡◌, sym, ap, ap₂, ◌∙◌, now}
+use Rattle.fields.proofs.Base.{◌≡◌, sym, ap, ap₂, ◌∙◌}
 use Rattle.names.specs.Names.{compared}
 use Rattle.entries.specs.declared.Kind.TheVariants.{Listing}
 use Rattle.quickref.specs.declared.Hit.{Hit}

@@ -1,4 +1,4 @@
-use Rattle.fields.proofs.Base.{sym, ◌∙◌, now}
+use Rattle.fields.proofs.Base.{sym, ◌∙◌}
 use Rattle.book.proofs.Checked.{Linked, checked_listing, checked_no_listing}
 use Rattle.search.proofs.Searching.{search_found, search_next, search_barred}
 use Rattle.search.proofs.search_in.Goals as goal
