@@ -1,4 +1,4 @@
-use Rattle.fields.proofs.Base.{lt-ltb, le-ltb, le-leb, lt-leb, ◌≡◌, refl, sym, ap, ◌∙◌, cond, ◌&&◌, arith, div-le_self, ℕ, ◌+◌, ◌-◌, ◌*◌, ◌<◌, ltb, leb, now}
+use Rattle.fields.proofs.Base.{lt-ltb, le-ltb, le-leb, lt-leb, ◌≡◌, refl, sym, ap, ◌∙◌, cond, ◌&&◌, arith, div-le_self, ℕ, ◌+◌, ◌-◌, ◌*◌, ◌<◌, ltb, leb}
 use Rattle.chunk.specs.Chunk.{bad, entries_at, checked_entries, parsed_as}
 use Rattle.chunk_fields.specs.ChunkFields.{first_place, quick_count, spacing_of, entry_count}
 use Rattle.chunk.proofs.Frame.{head_small, framed_as, parsed_capped}

@@ -1,4 +1,4 @@
-use Rattle.fields.proofs.Base.{◌≡◌, refl, ap, ◌∙◌, ℕ, ◌-◌, ◌*◌, ◌/◌, ◌≤◌, ◌<◌, min, le-div_iff_mul-le, div-le_self, arith, length, now}
+use Rattle.fields.proofs.Base.{◌≡◌, refl, ap, ◌∙◌, ℕ, ◌-◌, ◌*◌, ◌/◌, ◌≤◌, ◌<◌, min, le-div_iff_mul-le, div-le_self, arith, length}
 use Rattle.names.specs.Names.{compared}
 use Rattle.chunk_fields.specs.ChunkFields.{entry_count, spacing_of, count_place}
 use Rattle.chunk.proofs.Quick.{capped}

@@ -1,4 +1,4 @@
-use Rattle.fields.proofs.Base.{refl, sym, ap, ◌∙◌, true, false, arith, now}
+use Rattle.fields.proofs.Base.{refl, sym, ap, ◌∙◌, true, false, arith}
 use Rattle.names.specs.Order.{is_less}
 use Rattle.names.specs.Names.{compared}
 use Rattle.halving.specs.Halving.{group_above}

@@ -1,4 +1,4 @@
-use Rattle.fields.proofs.Base.{eq-eqb, ne_eqb, ◌+◌, ◌<◌, arith, length, get_or, now}
+use Rattle.fields.proofs.Base.{eq-eqb, ne_eqb, ◌+◌, ◌<◌, arith, length, get_or}
 use Rattle.fields.specs.Le.{le}
 use Rattle.chunk.proofs.Frame.{head_small}
 use Rattle.quickref.specs.Quickref.{group_at}
