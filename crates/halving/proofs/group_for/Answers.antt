@@ -20,13 +20,13 @@ overflow_sub-total c = omega arith
 pub group_of-left-requires : goal.group_of-left-requires
 group_of-left-requires c =
     let has_count : count_place < length c.args.c.now =
-    counted c.args.c.now (omega (arith, c.entry_count-total.ensures, c.if-total-eq0.left)) in
+    counted c.args.c.now (omega (arith, c.entry_count-total.ensures, c.if-total-eq0.false)) in
     (omega (arith, div-le_self (c.entry_count-total.result - 1) c.spacing-n.result), has_count)
 
 pub group_place-requires : goal.group_place-requires
 group_place-requires c =
     let has_count : count_place < length c.args.c.now =
-    counted c.args.c.now (omega (arith, c.entry_count-total.ensures, c.if-total-eq0.left)) in
+    counted c.args.c.now (omega (arith, c.entry_count-total.ensures, c.if-total-eq0.false)) in
     has_count
 
 pub overflow_mul-left : goal.overflow_mul-left
