@@ -64,7 +64,7 @@ overflow_add-start c =
     item_at a.limits Listing a.c.now c.loop-left.at ≡ Good c.in-Good.e =
     sym c.listing_at.ensures ∙ c.in-Good.is in
     let name_inside : Inside c.args.c.now c.loop-left.at c.in-Good.e =
-    item_inside _ _ _ _ _ (read_is) in
+    item_inside c.args.limits Listing c.args.c.now c.loop-left.at c.in-Good.e read_is in
     omega (arith, (name_inside).name)
 
 pub slice_bounds-compare-count : goal.slice_bounds-compare-count
@@ -74,7 +74,7 @@ slice_bounds-compare-count c =
     item_at a.limits Listing a.c.now c.loop-left.at ≡ Good c.in-Good.e =
     sym c.listing_at.ensures ∙ c.in-Good.is in
     let name_inside : Inside c.args.c.now c.loop-left.at c.in-Good.e =
-    item_inside _ _ _ _ _ (read_is) in
+    item_inside c.args.limits Listing c.args.c.now c.loop-left.at c.in-Good.e read_is in
     omega (arith, (name_inside).name)
 
 pub slice_bounds-compare-start : goal.slice_bounds-compare-start
@@ -84,7 +84,7 @@ slice_bounds-compare-start c =
     item_at a.limits Listing a.c.now c.loop-left.at ≡ Good c.in-Good.e =
     sym c.listing_at.ensures ∙ c.in-Good.is in
     let name_inside : Inside c.args.c.now c.loop-left.at c.in-Good.e =
-    item_inside _ _ _ _ _ (read_is) in
+    item_inside c.args.limits Listing c.args.c.now c.loop-left.at c.in-Good.e read_is in
     omega (arith, (name_inside).name)
 
 pub slice_bounds-compare-end : goal.slice_bounds-compare-end
@@ -94,7 +94,7 @@ slice_bounds-compare-end c =
     item_at a.limits Listing a.c.now c.loop-left.at ≡ Good c.in-Good.e =
     sym c.listing_at.ensures ∙ c.in-Good.is in
     let name_inside : Inside c.args.c.now c.loop-left.at c.in-Good.e =
-    item_inside _ _ _ _ _ (read_is) in
+    item_inside c.args.limits Listing c.args.c.now c.loop-left.at c.in-Good.e read_is in
     omega (arith, (name_inside).name)
 
 pub spent-requires-in-Less : goal.spent-requires-in-Less
