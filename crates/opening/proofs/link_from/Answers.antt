@@ -18,10 +18,10 @@ returns-then-previous_link-previous c =
     let is_there : let a = c.args in listing_chunk (directory_of a.file.now a.book) (shape_of a.book) a.c ≡ true =
     sym c.is_listing.ensures ∙ c.if-not-is_listing.false in
     let links_are : let a = c.args in let p = directory_of a.file.now a.book a.c in
-    (previous_of p ≡ previous_link c.chunk_bytes.result.now) × (next_of p ≡ next_link c.chunk_bytes.result.now) =
+    (previous_of p ≡ previous_link c.chunk_bytes-bytes.result.now) × (next_of p ≡ next_link c.chunk_bytes-bytes.result.now) =
     let a = c.args in
     let b = listing_chunk_lem _ _ _ (is_there) in
-    rw c.chunk_bytes.ensures (links_stand a.file.now a.book c.requires a.c b.0 b.1) in
+    rw c.chunk_bytes-bytes.ensures (links_stand a.file.now a.book c.requires a.c b.0 b.1) in
     let previous_is : let a = c.args in
     previous_of (directory_of a.file.now a.book a.c) ≡ c.previous_link.result =
     (links_are).0 ∙ sym c.previous_link.ensures in
@@ -33,10 +33,10 @@ returns-then-next-no_chunk c =
     let is_there : let a = c.args in listing_chunk (directory_of a.file.now a.book) (shape_of a.book) a.c ≡ true =
     sym c.is_listing.ensures ∙ c.if-not-is_listing.false in
     let links_are : let a = c.args in let p = directory_of a.file.now a.book a.c in
-    (previous_of p ≡ previous_link c.chunk_bytes.result.now) × (next_of p ≡ next_link c.chunk_bytes.result.now) =
+    (previous_of p ≡ previous_link c.chunk_bytes-bytes.result.now) × (next_of p ≡ next_link c.chunk_bytes-bytes.result.now) =
     let a = c.args in
     let b = listing_chunk_lem _ _ _ (is_there) in
-    rw c.chunk_bytes.ensures (links_stand a.file.now a.book c.requires a.c b.0 b.1) in
+    rw c.chunk_bytes-bytes.ensures (links_stand a.file.now a.book c.requires a.c b.0 b.1) in
     let previous_is : let a = c.args in
     previous_of (directory_of a.file.now a.book a.c) ≡ c.previous_link.result =
     (links_are).0 ∙ sym c.previous_link.ensures in
@@ -51,10 +51,10 @@ returns-then-not-is_listing-2 c =
     let is_there : let a = c.args in listing_chunk (directory_of a.file.now a.book) (shape_of a.book) a.c ≡ true =
     sym c.is_listing.ensures ∙ c.if-not-is_listing.false in
     let links_are : let a = c.args in let p = directory_of a.file.now a.book a.c in
-    (previous_of p ≡ previous_link c.chunk_bytes.result.now) × (next_of p ≡ next_link c.chunk_bytes.result.now) =
+    (previous_of p ≡ previous_link c.chunk_bytes-bytes.result.now) × (next_of p ≡ next_link c.chunk_bytes-bytes.result.now) =
     let a = c.args in
     let b = listing_chunk_lem _ _ _ (is_there) in
-    rw c.chunk_bytes.ensures (links_stand a.file.now a.book c.requires a.c b.0 b.1) in
+    rw c.chunk_bytes-bytes.ensures (links_stand a.file.now a.book c.requires a.c b.0 b.1) in
     let previous_is : let a = c.args in
     previous_of (directory_of a.file.now a.book a.c) ≡ c.previous_link.result =
     (links_are).0 ∙ sym c.previous_link.ensures in
@@ -77,10 +77,10 @@ returns-then-names_rise c =
     let is_there : let a = c.args in listing_chunk (directory_of a.file.now a.book) (shape_of a.book) a.c ≡ true =
     sym c.is_listing.ensures ∙ c.if-not-is_listing.false in
     let links_are : let a = c.args in let p = directory_of a.file.now a.book a.c in
-    (previous_of p ≡ previous_link c.chunk_bytes.result.now) × (next_of p ≡ next_link c.chunk_bytes.result.now) =
+    (previous_of p ≡ previous_link c.chunk_bytes-bytes.result.now) × (next_of p ≡ next_link c.chunk_bytes-bytes.result.now) =
     let a = c.args in
     let b = listing_chunk_lem _ _ _ (is_there) in
-    rw c.chunk_bytes.ensures (links_stand a.file.now a.book c.requires a.c b.0 b.1) in
+    rw c.chunk_bytes-bytes.ensures (links_stand a.file.now a.book c.requires a.c b.0 b.1) in
     let previous_is : let a = c.args in
     previous_of (directory_of a.file.now a.book a.c) ≡ c.previous_link.result =
     (links_are).0 ∙ sym c.previous_link.ensures in
@@ -97,10 +97,10 @@ returns-else-names_rise c =
     let is_there : let a = c.args in listing_chunk (directory_of a.file.now a.book) (shape_of a.book) a.c ≡ true =
     sym c.is_listing.ensures ∙ c.if-not-is_listing.false in
     let links_are : let a = c.args in let p = directory_of a.file.now a.book a.c in
-    (previous_of p ≡ previous_link c.chunk_bytes.result.now) × (next_of p ≡ next_link c.chunk_bytes.result.now) =
+    (previous_of p ≡ previous_link c.chunk_bytes-bytes.result.now) × (next_of p ≡ next_link c.chunk_bytes-bytes.result.now) =
     let a = c.args in
     let b = listing_chunk_lem _ _ _ (is_there) in
-    rw c.chunk_bytes.ensures (links_stand a.file.now a.book c.requires a.c b.0 b.1) in
+    rw c.chunk_bytes-bytes.ensures (links_stand a.file.now a.book c.requires a.c b.0 b.1) in
     let previous_is : let a = c.args in
     previous_of (directory_of a.file.now a.book a.c) ≡ c.previous_link.result =
     (links_are).0 ∙ sym c.previous_link.ensures in
