@@ -8,7 +8,7 @@ use Rattle.opening.proofs.chain_linked.Goals as goal
 
 pub loop-left-init : goal.loop-left-init
 loop-left-init c = let a = c.args in
-    ap (λ p. chain_run (directory_of a.file.now a.book) (shape_of a.book) a.listings p a.book.first) c.no_chunk.ensures
+    ap (λ p. chain_run (directory_of a.file.now a.book) (shape_of a.book) a.listings p a.book.first) c.no_chunk-previous.ensures
 
 pub returns-in-Broken : goal.returns-in-Broken
 returns-in-Broken c =

@@ -1,9 +1,11 @@
-use Rattle.fields.proofs.Base.{rules, ◌≡◌, sym, ◌∙◌, add-sub_cancel_left, arith, ◌+◌, ◌≤◌, ◌<◌, length}
+use Rattle.fields.proofs.Base.{◌≡◌, List, ℕ, sym, ◌∙◌, add-sub_cancel_left, arith, ◌+◌, ◌≤◌, ◌<◌, length}
 use Rattle.fields.specs.Same.{same}
 use Rattle.entries.specs.Entry.{item_at, name_of}
+use Rattle.entries.specs.declared.Place.{Place}
 use Rattle.entries.specs.declared.Item.TheVariants.{Good}
 use Rattle.entries.proofs.Laws.{item_inside, index_apart}
 use Rattle.entries.specs.declared.Kind.TheVariants.{Index}
+use Rattle.header.specs.declared.Record.{Record}
 use Rattle.tree.specs.Shape.{first_name}
 use Rattle.book.specs.Book.{limits_of, chunk_bytes, directory_of}
 use Rattle.opening.specs.Passes.{named_child}
@@ -69,18 +71,18 @@ slice_bounds-is_named-end c =
     rw c.chunk_bytes-bytes.ensures (item_inside _ _ _ _ _ (read_is)).name in
     omega (arith, inside)
 
-pub is_named-requires : goal.is_named-requires
+-- the child of an index entry that was read is below the count
+child_below : (s : List ℕ) (r : Record) (c at : ℕ) (x : Place) → item_at (limits_of s r) Index (chunk_bytes s r c) at ≡ Good x → x.child < r.count
 unfolding limits_of item_at
+child_below s r c at x q = (index_apart r.count (chunk_bytes s r c) at x q).below
+
+pub is_named-requires : goal.is_named-requires
 is_named-requires c =
     let asked : let a = c.args in
     c.item_at.result ≡ item_at (limits_of a.file.now a.book) Index (chunk_bytes a.file.now a.book a.c) a.at =
     rw (← c.limits.ensures, ← c.chunk_bytes-bytes.ensures) c.item_at.ensures in
-    let read_is : let a = c.args in
-    item_at (limits_of a.file.now a.book) Index (chunk_bytes a.file.now a.book a.c) a.at ≡ Good c.in-Good.x =
-    sym (asked) ∙ c.in-Good.is in
-    let child_below : c.in-Good.x.child < c.args.book.count =
-    (index_apart _ _ _ _ (read_is)).below in
-    (search rules, child_below)
+    let a = c.args in
+    (c.requires, child_below a.file.now a.book a.c a.at c.in-Good.x (sym asked ∙ c.in-Good.is))
 
 pub returns-then-is_named : goal.returns-then-is_named
 unfolding named_child

@@ -1,0 +1,91 @@
+use Rattle.fields.proofs.Base.{◌≡◌, sym, ap, ◌∙◌, subst, List, ℕ, ◌-◌, ◌<◌, arith}
+use mathlib.Core.Path.{subst₂}
+use Rattle.entries.specs.Entry.{Entry}
+use Rattle.chunk.specs.Chunk.{entries_in}
+use Rattle.chunk_fields.specs.ChunkFields.{entry_count}
+use Rattle.header.specs.declared.Record.{Record}
+use Rattle.tree.specs.Walk.{TreeProgress, visit, into_child, walk_tree}
+use Rattle.tree.proofs.Chunks.{index_chunk_lem}
+use Rattle.tree.proofs.Steps.{walk_none, leaf_other, index_none, index_not, index_enter}
+use Rattle.book.specs.Book.{chunk_bytes, directory_of, shape_of}
+use Rattle.opening.specs.Passes.{progress_of, named_child}
+use Rattle.opening.specs.declared.NamedChild.{NamedChild}
+use Rattle.opening.proofs.Visits.{Left, Visited, all_left, none_left, visited, stopped_is, going_is, leaf_is}
+use Rattle.opening.proofs.+walk_tree.Goals as goal
+
+-- what the entry that was met at a place makes of the visit, x being what was met
+met : (s : List ℕ) (r : Record) (c : ℕ) (f : ℕ → ℕ → ℕ → TreeProgress) (at : ℕ) (xs : List Entry) (expected left rest : ℕ) (x y : NamedChild)
+    → 0 < rest → Left s r c rest at xs → x ≡ named_child s r c at → x ≡ y → Visited s r c f at xs expected left (rest - 1) y
+met s r c f at xs expected left rest x y h i p q =
+    subst (Visited s r c f at xs expected left (rest - 1)) (sym p ∙ q) (visited s r c f at xs expected left rest h i)
+
+pub returns-then-level-eq0 : goal.returns-then-level-eq0
+returns-then-level-eq0 t c =
+    let a = c.args in
+    ap progress_of (sym (walk_none (directory_of a.file.now a.book) (shape_of a.book) a.level a.c a.expected a.left c.if-level-eq0.true))
+
+pub returns-then-c-expected : goal.returns-then-c-expected
+returns-then-c-expected t c =
+    let a = c.args in
+    ap progress_of (sym (leaf_other (directory_of a.file.now a.book) (shape_of a.book) a.level a.c a.expected a.left c.if-level-eq1.true c.if-c-expected.true))
+
+pub returns-then-level-eq1 : goal.returns-then-level-eq1
+returns-then-level-eq1 t c =
+    let a = c.args in
+    c.leaf.ensures ∙ leaf_is (directory_of a.file.now a.book) (shape_of a.book) a.level a.c a.expected a.left c.if-level-eq1.true c.if-c-expected.false
+
+pub returns-then-left-eq0 : goal.returns-then-left-eq0
+returns-then-left-eq0 t c =
+    let a = c.args in
+    ap progress_of (sym (index_none (directory_of a.file.now a.book) (shape_of a.book) a.level a.c a.expected a.left (omega arith) c.if-left-eq0.true))
+
+pub returns-then-not-is_index : goal.returns-then-not-is_index
+returns-then-not-is_index t c =
+    let a = c.args in
+    ap progress_of
+    (sym (index_not (directory_of a.file.now a.book) (shape_of a.book) a.level a.c a.expected a.left (omega arith) (sym c.is_index.ensures ∙ c.if-not-is_index.true)))
+
+pub loop-rest-init : goal.loop-rest-init
+loop-rest-init t c =
+    let a = c.args in
+    let h = sym c.is_index.ensures ∙ c.if-not-is_index.false in
+    let q : c.entry_count-rest.result ≡ entry_count (chunk_bytes a.file.now a.book a.c) = rw (← c.chunk_bytes.ensures) c.entry_count-rest.ensures in (
+      entries_in (directory_of a.file.now a.book a.c),
+      subst₂ (λ (n m : ℕ). Left a.file.now a.book a.c n m (entries_in (directory_of a.file.now a.book a.c))) (sym q) (sym c.first_place-at.ensures)
+          (all_left a.file.now a.book a.c (index_chunk_lem (directory_of a.file.now a.book) (shape_of a.book) a.c h).1),
+      index_enter (directory_of a.file.now a.book) (shape_of a.book) a.level a.c a.expected a.left (omega arith) (omega arith) h,
+    )
+
+pub returns-in_default : goal.returns-in_default
+returns-in_default t c =
+    let a = c.args in
+    let l = c.loop-rest in
+    let f = walk_tree (directory_of a.file.now a.book) (shape_of a.book) (a.level - 1) in
+    let w = met a.file.now a.book a.c f l.at l.invariant.0 l.next l.k l.rest _ _ c.loop-rest-test.true l.invariant.1 c.named_child.ensures c.in_default.is in
+    ap progress_of (sym w ∙ l.invariant.2)
+
+pub returns-in_default-walk_tree : goal.returns-in_default-walk_tree
+returns-in_default-walk_tree t c =
+    let a = c.args in
+    let l = c.loop-rest in
+    let f = walk_tree (directory_of a.file.now a.book) (shape_of a.book) (a.level - 1) in
+    let w = met a.file.now a.book a.c f l.at l.invariant.0 l.next l.k l.rest _ _ c.loop-rest-test.true l.invariant.1 c.named_child.ensures c.in-Named.is in
+    let z = stopped_is (f c.in-Named.child l.next l.k) (sym c.in_default-walk_tree.is ∙ c.walk_tree.ensures) in
+    ap progress_of (sym (rw z at w.2) ∙ l.invariant.2)
+
+pub loop-rest-preserved : goal.loop-rest-preserved
+loop-rest-preserved t c =
+    let a = c.args in
+    let l = c.loop-rest in
+    let f = walk_tree (directory_of a.file.now a.book) (shape_of a.book) (a.level - 1) in
+    let w = met a.file.now a.book a.c f l.at l.invariant.0 l.next l.k l.rest _ _ c.loop-rest-test.true l.invariant.1 c.named_child.ensures c.in-Named.is in
+    let z = going_is (f c.in-Named.child l.next l.k) c.in-Going.e c.in-Going.l (sym c.in-Going.is ∙ c.walk_tree.ensures) in
+    (w.0, w.1, sym (rw z at w.2) ∙ l.invariant.2)
+
+pub returns : goal.returns
+returns t c =
+    let a = c.args in
+    let l = c.loop-rest in
+    let f = walk_tree (directory_of a.file.now a.book) (shape_of a.book) (a.level - 1) in
+    let z = none_left a.file.now a.book a.c l.rest l.at l.invariant.0 (omega arith) l.invariant.1 in
+    ap progress_of (sym (ap (λ (ys : List Entry). visit (into_child (directory_of a.file.now a.book) f) ys l.next l.k) z) ∙ l.invariant.2)
