@@ -1,4 +1,4 @@
-use Rattle.fields.proofs.Base.{◌≡◌, sym, ap, ◌∙◌, now}
+use Rattle.fields.proofs.Base.{◌≡◌, sym, ap, ◌∙◌}
 use Rattle.batch.specs.Batch.{names_in}
 use Rattle.batch.specs.Step.{counted_as}
 use Rattle.batch.specs.declared.Batched.TheVariants.{Refused}

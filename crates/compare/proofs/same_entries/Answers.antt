@@ -1,4 +1,4 @@
-use Rattle.fields.proofs.Base.{◌≡◌, sym, ◌∙◌, now}
+use Rattle.fields.proofs.Base.{◌≡◌, sym, ◌∙◌}
 use Rattle.fields.specs.Part.{part_of}
 use Rattle.fields.proofs.Tests.{held}
 use Rattle.names.specs.Names.{compared}

@@ -1,4 +1,4 @@
-use Rattle.fields.proofs.Base.{sym, ap, ◌∙◌, now}
+use Rattle.fields.proofs.Base.{sym, ap, ◌∙◌}
 use Rattle.fields.proofs.Tests.{held, failed}
 use Rattle.book.proofs.Laws.{fits_told}
 use Rattle.lookup.specs.declared.Reply.TheVariants.{Refused}

@@ -1,4 +1,4 @@
-use Rattle.fields.proofs.Base.{◌≡◌, sym, ◌∙◌, true, now}
+use Rattle.fields.proofs.Base.{◌≡◌, sym, ◌∙◌, true}
 use Rattle.tree.specs.Shape.{index_chunk}
 use Rattle.book.specs.Book.{directory_of, shape_of}
 use Rattle.book.proofs.Checked.{checked_index, checked_no_index}

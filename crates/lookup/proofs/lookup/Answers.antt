@@ -1,4 +1,4 @@
-use Rattle.fields.proofs.Base.{ap, arith, now, rules}
+use Rattle.fields.proofs.Base.{ap, arith, rules}
 use Rattle.fields.proofs.Tests.{held, failed}
 use Rattle.book.proofs.Laws.{fits_told}
 use Rattle.lookup.specs.declared.Answer.TheVariants.{Refused}

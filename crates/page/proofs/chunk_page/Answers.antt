@@ -1,4 +1,4 @@
-use Rattle.fields.proofs.Base.{◌≡◌, sym, ap, ◌∙◌, true, arith, now}
+use Rattle.fields.proofs.Base.{◌≡◌, sym, ap, ◌∙◌, true, arith}
 use Rattle.fields.proofs.Tests.{held, failed}
 use Rattle.chunk_fields.specs.ChunkFields.{entry_count}
 use Rattle.book.specs.Book.{chunk_bytes, record_fits}
@@ -39,7 +39,7 @@ returns-then-out-total c =
     checked_listing _ _ _ _ _ (sym c.checked_chunk.ensures ∙ c.in-Listing.is) in
     let count_is : let a = c.args in
     c.entry_count-total.result ≡ entry_count (chunk_bytes a.file.now a.book a.chunk) =
-    rw (← c.??.chunk_bytes_lem.ensures) c.entry_count-total.ensures in
+    rw (← c.chunk_bytes.ensures) c.entry_count-total.ensures in
     let a = c.args in
     page_short a.file.now a.book a.chunk a.out.now (fits_is) (met_is).below c.entry_count-total.result (count_is) c.if-out-total.true
 
@@ -50,7 +50,7 @@ put_reports-requires c =
     checked_listing _ _ _ _ _ (sym c.checked_chunk.ensures ∙ c.in-Listing.is) in
     let count_is : let a = c.args in
     c.entry_count-total.result ≡ entry_count (chunk_bytes a.file.now a.book a.chunk) =
-    rw (← c.??.chunk_bytes_lem.ensures) c.entry_count-total.ensures in
+    rw (← c.chunk_bytes.ensures) c.entry_count-total.ensures in
     let n = count_is in
     record { chunk_value = (met_is).kind; chunk_in_bounds = omega arith }
 
@@ -63,7 +63,7 @@ returns c =
     checked_listing _ _ _ _ _ (sym c.checked_chunk.ensures ∙ c.in-Listing.is) in
     let count_is : let a = c.args in
     c.entry_count-total.result ≡ entry_count (chunk_bytes a.file.now a.book a.chunk) =
-    rw (← c.??.chunk_bytes_lem.ensures) c.entry_count-total.ensures in
+    rw (← c.chunk_bytes.ensures) c.entry_count-total.ensures in
     let a = c.args in
     page_done a.file.now a.book a.chunk a.out.now (fits_is) (met_is).below c.entry_count-total.result (count_is)
     c.if-out-total.false _ (met_is).next_is _ c.put_reports.ensures

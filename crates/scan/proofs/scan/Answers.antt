@@ -1,4 +1,4 @@
-use Rattle.fields.proofs.Base.{◌≡◌, sym, ap, ◌∙◌, true, now}
+use Rattle.fields.proofs.Base.{◌≡◌, sym, ap, ◌∙◌, true}
 use Rattle.fields.proofs.Tests.{held, failed}
 use Rattle.names.specs.Names.{askable}
 use Rattle.lookup.specs.declared.Reply.TheVariants.{Refused}

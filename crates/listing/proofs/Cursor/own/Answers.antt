@@ -1,4 +1,4 @@
-use Rattle.fields.proofs.Base.{◌≡◌, sym, ap, ◌∙◌, true, now}
+use Rattle.fields.proofs.Base.{◌≡◌, sym, ap, ◌∙◌, true}
 use Rattle.fields.proofs.Tests.{held, failed}
 use Rattle.entries.specs.declared.Kind.TheVariants.{Listing}
 use Rattle.quickref.specs.Quickref.{nth_in}
@@ -25,11 +25,11 @@ returns-in-At c =
     checked_listing _ _ _ _ _ (sym c.checked_chunk.ensures ∙ c.in-Listing.is) in
     let sought_is : let a = c.args in
     c.nth_entry.result ≡ nth_in (limits_of a.file.now a.book) Listing (chunk_bytes a.file.now a.book a.self.chunk) a.self.entry =
-    rw (← c.limits.ensures, ← c.??.chunk_bytes_lem.ensures) c.nth_entry.ensures in
+    rw (← c.limits.ensures, ← c.chunk_bytes-c.ensures) c.nth_entry.ensures in
     let l = linked_is in
     let a = c.args in
     owned_answer a.file.now (λ j. (c.type_inv.file j).fits) a.book a.self _
-    (ap At c.??.own_of_lem.ensures ∙ sym (own_there _ _ _ (fits_is) l.below l.kind _ (sym (sought_is) ∙ c.in-At.is)))
+    (ap At c.own_of.ensures ∙ sym (own_there _ _ _ (fits_is) l.below l.kind _ (sym (sought_is) ∙ c.in-At.is)))
 
 pub returns-in-Nothing : goal.returns-in-Nothing
 returns-in-Nothing c =
@@ -40,7 +40,7 @@ returns-in-Nothing c =
     checked_listing _ _ _ _ _ (sym c.checked_chunk.ensures ∙ c.in-Listing.is) in
     let sought_is : let a = c.args in
     c.nth_entry.result ≡ nth_in (limits_of a.file.now a.book) Listing (chunk_bytes a.file.now a.book a.self.chunk) a.self.entry =
-    rw (← c.limits.ensures, ← c.??.chunk_bytes_lem.ensures) c.nth_entry.ensures in
+    rw (← c.limits.ensures, ← c.chunk_bytes-c.ensures) c.nth_entry.ensures in
     let l = linked_is in
     let a = c.args in
     owned_answer a.file.now (λ j. (c.type_inv.file j).fits) a.book a.self _

@@ -1,4 +1,4 @@
-use Rattle.fields.proofs.Base.{◌≡◌, sym, ap, ◌∙◌, true, now}
+use Rattle.fields.proofs.Base.{◌≡◌, sym, ap, ◌∙◌, true}
 use Rattle.fields.proofs.Tests.{held, failed}
 use Rattle.book.specs.Book.{record_fits}
 use Rattle.walk.specs.declared.Entered.TheVariants.{Inside, Over, Barred}
