@@ -1,4 +1,4 @@
-use Rattle.fields.proofs.Base.{◌≡◌, sym, ap, ◌∙◌, ℕ, ◌+◌, ◌-◌, ◌≤◌, ◌<◌, add-sub_cancel_left, arith, now}
+use Rattle.fields.proofs.Base.{◌≡◌, sym, ap, ◌∙◌, ℕ, ◌+◌, ◌-◌, ◌≤◌, ◌<◌, add-sub_cancel_left, arith}
 use Rattle.fields.proofs.Le.{le_lt}
 use Rattle.names.specs.Names.{compared}
 use Rattle.entries.specs.Entry.{item_at, name_of}
@@ -37,7 +37,7 @@ spent-requires c =
     → (left ≤ c.group_for-group.result.size) × (c.group_for-group.result.size < 65536) × (c.group_for-group.result.count < 65536) =
     λ left h. let a = c.args in
     spent_fits a.limits Listing a.c.now (compared a.name.now) _ _ c.group_for-group.ensures.1 c.group_for-group.ensures.2
-    (le_lt a.c.now (λ j. (c.type_inv.c j).fits) 2 count_place) left (omega (arith, h, c.??.loop.invariant.0)) in
+    (le_lt a.c.now (λ j. (c.type_inv.c j).fits) 2 count_place) left (omega (arith, h, c.loop-left.invariant.0)) in
     room _ (omega arith)
 
 pub returns-in_default : goal.returns-in_default
@@ -103,7 +103,7 @@ spent-requires-in-Less c =
     → (left ≤ c.group_for-group.result.size) × (c.group_for-group.result.size < 65536) × (c.group_for-group.result.count < 65536) =
     λ left h. let a = c.args in
     spent_fits a.limits Listing a.c.now (compared a.name.now) _ _ c.group_for-group.ensures.1 c.group_for-group.ensures.2
-    (le_lt a.c.now (λ j. (c.type_inv.c j).fits) 2 count_place) left (omega (arith, h, c.??.loop.invariant.0)) in
+    (le_lt a.c.now (λ j. (c.type_inv.c j).fits) 2 count_place) left (omega (arith, h, c.loop-left.invariant.0)) in
     room _ (omega arith)
 
 pub returns-in-Less : goal.returns-in-Less
@@ -131,7 +131,7 @@ spent-requires-in-Equal c =
     → (left ≤ c.group_for-group.result.size) × (c.group_for-group.result.size < 65536) × (c.group_for-group.result.count < 65536) =
     λ left h. let a = c.args in
     spent_fits a.limits Listing a.c.now (compared a.name.now) _ _ c.group_for-group.ensures.1 c.group_for-group.ensures.2
-    (le_lt a.c.now (λ j. (c.type_inv.c j).fits) 2 count_place) left (omega (arith, h, c.??.loop.invariant.0)) in
+    (le_lt a.c.now (λ j. (c.type_inv.c j).fits) 2 count_place) left (omega (arith, h, c.loop-left.invariant.0)) in
     room _ (omega arith)
 
 pub returns-in-Equal : goal.returns-in-Equal
@@ -178,7 +178,7 @@ spent-requires-2 c =
     → (left ≤ c.group_for-group.result.size) × (c.group_for-group.result.size < 65536) × (c.group_for-group.result.count < 65536) =
     λ left h. let a = c.args in
     spent_fits a.limits Listing a.c.now (compared a.name.now) _ _ c.group_for-group.ensures.1 c.group_for-group.ensures.2
-    (le_lt a.c.now (λ j. (c.type_inv.c j).fits) 2 count_place) left (omega (arith, h, c.??.loop.invariant.0)) in
+    (le_lt a.c.now (λ j. (c.type_inv.c j).fits) 2 count_place) left (omega (arith, h, c.loop-left.invariant.0)) in
     room _ (omega arith)
 
 pub returns : goal.returns
