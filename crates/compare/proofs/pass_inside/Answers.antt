@@ -29,7 +29,7 @@ loop-first-smaller c =
     turned a.file1.now a.one a.file2.now a.two (both_at c.loop-first.first c.loop-first.second c.loop-first.totals)
     ≡ On (both_at c.after-first.result c.after-second.result c.one_same-totals.result) =
     rw (c.one_same-totals.ensures, c.after-first.ensures, c.after-second.ensures)
-    (same_passed c.args.file1.now c.args.one c.args.file2.now c.args.two c.requires.0 c.requires.1
+    (same_passed c.args.file1.now c.args.one c.args.file2.now c.args.two c.requires.one_value c.requires.two_value
     c.loop-first.first c.loop-first.second c.loop-first.totals _ _ (omega (arith, c.loop-first-test.true)) (omega (arith, c.if-second-lt1.false)) (same_is)) in
     let a = c.args in
     turn_falls a.file1.now a.one a.file2.now a.two (both_at c.loop-first.first c.loop-first.second c.loop-first.totals) _ (turn_is)
@@ -46,7 +46,7 @@ loop-first-preserved c =
     turned a.file1.now a.one a.file2.now a.two (both_at c.loop-first.first c.loop-first.second c.loop-first.totals)
     ≡ On (both_at c.after-first.result c.after-second.result c.one_same-totals.result) =
     rw (c.one_same-totals.ensures, c.after-first.ensures, c.after-second.ensures)
-    (same_passed c.args.file1.now c.args.one c.args.file2.now c.args.two c.requires.0 c.requires.1
+    (same_passed c.args.file1.now c.args.one c.args.file2.now c.args.two c.requires.one_value c.requires.two_value
     c.loop-first.first c.loop-first.second c.loop-first.totals _ _ (omega (arith, c.loop-first-test.true)) (omega (arith, c.if-second-lt1.false)) (same_is)) in
     let a = c.args in (
       rw (after_chunk c.loop-first.first _ _ c.after-first.ensures) c.loop-first.invariant.0,

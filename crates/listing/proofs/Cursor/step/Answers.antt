@@ -1,5 +1,4 @@
 use Rattle.fields.proofs.Base.{◌≡◌, sym, ap, ◌∙◌, true}
-use Rattle.fields.proofs.Tests.{held, failed}
 use Rattle.refusals.specs.Refusals.{no_chunk}
 use Rattle.chunk.specs.declared.Chunk.TheVariants.{Listing}
 use Rattle.book.specs.Book.{record_fits, checked_chunk}
@@ -10,12 +9,12 @@ use Rattle.listing.proofs.Cursor.step.Goals as goal
 
 pub returns-then-not-record_fits : goal.returns-then-not-record_fits
 returns-then-not-record_fits c = let a = c.args in
-    ap Refused c.refuse.ensures ∙ sym (step_unfit a.file.now a.book a.self (failed c.record_fits.ensures c.if-not-record_fits.true))
+    ap Refused c.refuse.ensures ∙ sym (step_unfit a.file.now a.book a.self (sym c.record_fits.ensures ∙ c.if-not-record_fits.true))
 
 pub returns-then-self-no_chunk : goal.returns-then-self-no_chunk
 returns-then-self-no_chunk c =
     let fits_is : let a = c.args in record_fits a.file.now a.book ≡ true =
-    held c.record_fits.ensures c.if-not-record_fits.false in
+    sym c.record_fits.ensures ∙ c.if-not-record_fits.false in
     let a = c.args in
     sym (step_end a.file.now a.book a.self (fits_is) (c.if-self-no_chunk.true ∙ c.no_chunk.ensures))
 
@@ -31,7 +30,7 @@ step_in-requires c =
 pub returns-in-Listing : goal.returns-in-Listing
 returns-in-Listing c =
     let fits_is : let a = c.args in record_fits a.file.now a.book ≡ true =
-    held c.record_fits.ensures c.if-not-record_fits.false in
+    sym c.record_fits.ensures ∙ c.if-not-record_fits.false in
     let met_is : let a = c.args in
     checked_chunk a.file.now a.book a.self.chunk ≡ Listing c.in-Listing.field-0 c.in-Listing.next =
     sym c.checked_chunk.ensures ∙ c.in-Listing.is in
@@ -44,7 +43,7 @@ returns-in-Listing c =
 pub returns-in-Index : goal.returns-in-Index
 returns-in-Index c =
     let fits_is : let a = c.args in record_fits a.file.now a.book ≡ true =
-    held c.record_fits.ensures c.if-not-record_fits.false in
+    sym c.record_fits.ensures ∙ c.if-not-record_fits.false in
     let another : c.args.self.chunk ≡ no_chunk → ⊥ =
     λ q. c.if-self-no_chunk.false (q ∙ sym c.no_chunk.ensures) in
     let a = c.args in
@@ -55,7 +54,7 @@ returns-in-Index c =
 pub returns-in-Refused : goal.returns-in-Refused
 returns-in-Refused c =
     let fits_is : let a = c.args in record_fits a.file.now a.book ≡ true =
-    held c.record_fits.ensures c.if-not-record_fits.false in
+    sym c.record_fits.ensures ∙ c.if-not-record_fits.false in
     let another : c.args.self.chunk ≡ no_chunk → ⊥ =
     λ q. c.if-self-no_chunk.false (q ∙ sym c.no_chunk.ensures) in
     let a = c.args in
