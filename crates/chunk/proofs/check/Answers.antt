@@ -1,4 +1,4 @@
-use Rattle.fields.proofs.Base.{eq-eqb, ne_eqb, ◌≡◌, sym, ap, ◌∙◌, now}
+use Rattle.fields.proofs.Base.{eq-eqb, ne_eqb, ◌≡◌, sym, ap, ◌∙◌}
 use Rattle.entries.specs.declared.Kind.TheVariants.{Listing, Index}
 use Rattle.chunk_fields.specs.ChunkFields.{spacing_of}
 use Rattle.chunk.specs.Chunk.{parsed_as, parsed}

@@ -1,4 +1,4 @@
-use Rattle.fields.proofs.Base.{rules, eq-eqb, ne_eqb, not-true, ◌≡◌, sym, ◌∙◌, cond, [], arith, ◌+◌, ◌-◌, ◌*◌, ◌≤◌, eqb, now}
+use Rattle.fields.proofs.Base.{rules, eq-eqb, ne_eqb, not-true, ◌≡◌, sym, ◌∙◌, cond, [], arith, ◌+◌, ◌-◌, ◌*◌, ◌≤◌, eqb}
 use borrow.Author.Tests.{not-false}
 use Rattle.fields.specs.Part.{part}
 use Rattle.entries.specs.Entry.{item_at}
@@ -19,7 +19,7 @@ loop-left-init c = let a = c.args in
       search rules,
       omega arith,
       omega arith,
-      rw (z, c.??.first_place_lem.ensures) (at_start a.n a.kind a.c.now (entries_at a.limits a.kind a.c.now a.end a.total (first_place a.kind))),
+      rw (z, c.first_place-first.ensures) (at_start a.n a.kind a.c.now (entries_at a.limits a.kind a.c.now a.end a.total (first_place a.kind))),
     )
 
 pub returns-in_default : goal.returns-in_default
@@ -40,7 +40,7 @@ still_rises-rises-requires c =
     (search rules, (read_inside).name)
 
 pub still_quick-quick-requires : goal.still_quick-quick-requires
-still_quick-quick-requires c = rw c.??.first_place_lem.ensures (head_small c.args.kind)
+still_quick-quick-requires c = rw c.first_place-first.ensures (head_small c.args.kind)
 
 pub next_mark-m-requires : goal.next_mark-m-requires
 next_mark-m-requires c =
@@ -78,7 +78,7 @@ loop-left-preserved c =
         c.next_mark-m.ensures.1,
         c.still_rises-rises.ensures,
         c.still_quick-quick.ensures,
-        c.??.first_place_lem.ensures,
+        c.first_place-first.ensures,
         ← mark_right_lem a.n w p l.invariant.1 a.c.now (first_place a.kind) place.at,
       )
           (sym (turn a.n a.kind a.c.now a.limits a.end l.rises l.quick (w * a.n + p) l.left l.at (part a.c.now l.from l.len) place c.loop-left-test.true (read_is))
@@ -105,7 +105,7 @@ returns-then-not-rises c =
     let a = c.args in
     sym (at_end a.n a.kind a.c.now a.limits a.end l.rises l.quick _ l.left l.at (part a.c.now l.from l.len) c.loop-left-test.false)
     ∙ l.invariant.3 in
-    simp (eq-eqb _ _ c.if-at-end.false, not-true c.loop-left.rises c.if-not-rises.true) at (ended)
+    simp (eq-eqb _ _ c.if-at-end.false, c.if-not-rises.true) at (ended)
 
 pub returns-then-not-quick : goal.returns-then-not-quick
 returns-then-not-quick c =
@@ -116,7 +116,7 @@ returns-then-not-quick c =
     let a = c.args in
     sym (at_end a.n a.kind a.c.now a.limits a.end l.rises l.quick _ l.left l.at (part a.c.now l.from l.len) c.loop-left-test.false)
     ∙ l.invariant.3 in
-    simp (eq-eqb _ _ c.if-at-end.false, not-false c.loop-left.rises c.if-not-rises.false, not-true c.loop-left.quick c.if-not-quick.true) at (ended)
+    simp (eq-eqb _ _ c.if-at-end.false, c.if-not-rises.false, c.if-not-quick.true) at (ended)
 
 pub returns : goal.returns
 returns c =
@@ -128,4 +128,4 @@ returns c =
     sym (at_end a.n a.kind a.c.now a.limits a.end l.rises l.quick _ l.left l.at (part a.c.now l.from l.len) c.loop-left-test.false)
     ∙ l.invariant.3 in
     c.good_chunk.ensures
-    ∙ simp (eq-eqb _ _ c.if-at-end.false, not-false c.loop-left.rises c.if-not-rises.false, not-false c.loop-left.quick c.if-not-quick.false) at (ended)
+    ∙ simp (eq-eqb _ _ c.if-at-end.false, c.if-not-rises.false, c.if-not-quick.false) at (ended)

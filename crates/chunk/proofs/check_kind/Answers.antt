@@ -1,4 +1,4 @@
-use Rattle.fields.proofs.Base.{lt-ltb, le-ltb, le-leb, lt-leb, ◌≡◌, refl, sym, ap, ◌∙◌, cond, ◌&&◌, arith, div-le_self, ℕ, ◌+◌, ◌-◌, ◌*◌, ◌<◌, ltb, leb, now}
+use Rattle.fields.proofs.Base.{lt-ltb, le-ltb, le-leb, lt-leb, ◌≡◌, refl, sym, ap, ◌∙◌, cond, ◌&&◌, arith, div-le_self, ℕ, ◌+◌, ◌-◌, ◌*◌, ◌<◌, ltb, leb}
 use Rattle.chunk.specs.Chunk.{bad, entries_at, checked_entries, parsed_as}
 use Rattle.chunk_fields.specs.ChunkFields.{first_place, quick_count, spacing_of, entry_count}
 use Rattle.chunk.proofs.Frame.{head_small, framed_as, parsed_capped}
@@ -44,7 +44,7 @@ returns-then-tail-quick_words c =
     simp (whole q _ c.quick_words.ensures refl, lt-ltb 0 c.entry_count-total.result (omega arith), lt-leb (2 + 2 * q) c.tail_length-tail.result (omega arith))
 
 pub overflow_sub-first_place : goal.overflow_sub-first_place
-overflow_sub-first_place c = rw c.??.first_place_lem.ensures (omega (arith, head_small c.args.kind))
+overflow_sub-first_place c = rw c.first_place.ensures (omega (arith, head_small c.args.kind))
 
 pub returns-then-first_place-tail : goal.returns-then-first_place-tail
 returns-then-first_place-tail c =
@@ -61,9 +61,9 @@ returns-then-first_place-tail c =
     ∙ ap (λ (m : ℕ). parsed_as m a.limits a.kind a.c.now) (sym n.ensures)
     ∙ framed_as a.limits a.kind a.c.now n.result c.entry_count-total.result q c.tail_length-tail.result h c.entry_count-total.ensures eq c.tail_length-tail.ensures eh in
     let q = c.quick_words.result in
-    let h = c.??.first_place_lem.result in
+    let h = c.first_place.result in
     simp (
-      whole q h c.quick_words.ensures c.??.first_place_lem.ensures,
+      whole q h c.quick_words.ensures c.first_place.ensures,
       lt-ltb 0 c.entry_count-total.result (omega arith),
       le-leb (2 + 2 * q) c.tail_length-tail.result (omega arith),
       lt-leb c.tail_length-tail.result (4096 - h) (omega arith),
@@ -84,9 +84,9 @@ returns c =
     ∙ ap (λ (m : ℕ). parsed_as m a.limits a.kind a.c.now) (sym n.ensures)
     ∙ framed_as a.limits a.kind a.c.now n.result c.entry_count-total.result q c.tail_length-tail.result h c.entry_count-total.ensures eq c.tail_length-tail.ensures eh in
     let q = c.quick_words.result in
-    let h = c.??.first_place_lem.result in
+    let h = c.first_place.result in
     simp (
-      whole q h c.quick_words.ensures c.??.first_place_lem.ensures,
+      whole q h c.quick_words.ensures c.first_place.ensures,
       lt-ltb 0 c.entry_count-total.result (omega arith),
       le-leb (2 + 2 * q) c.tail_length-tail.result (omega arith),
       le-leb c.tail_length-tail.result (4096 - h) (omega arith),

@@ -4,13 +4,13 @@ use Rattle.encint.proofs.Padded.{answer_exact}
 use Rattle.encint.proofs.read.Goals as goal
 
 pub returns-then-s-at : goal.returns-then-s-at
-returns-then-s-at c = answer_exact _ _ (λ j. (c.type_inv.s j).fits) _ (sym (at_past _ _ c.if-s-at.true))
+returns-then-s-at c = let w = answer_exact _ _ (λ j. (c.type_inv.s j).fits) _ (sym (at_past _ _ c.if-s-at.true)) in record { number = w.0; exact = w.1 }
 
 pub returns-then-b-lt128 : goal.returns-then-b-lt128
-returns-then-b-lt128 c = answer_exact _ _ (λ j. (c.shared_slice_known-1.given j).fits) _ (sym (at_one _ _ (omega arith) (omega arith)))
+returns-then-b-lt128 c = let w = answer_exact _ _ (λ j. (c.type_inv.s j).fits) _ (sym (at_one _ _ (omega arith) (omega arith))) in record { number = w.0; exact = w.1 }
 
 pub returns-then-s-next : goal.returns-then-s-next
-returns-then-s-next c = answer_exact _ _ (λ j. (c.shared_slice_known-1.given j).fits) _ (sym (at_cut _ _ (omega arith) (omega arith) c.if-s-next.true))
+returns-then-s-next c = let w = answer_exact _ _ (λ j. (c.type_inv.s j).fits) _ (sym (at_cut _ _ (omega arith) (omega arith) c.if-s-next.true)) in record { number = w.0; exact = w.1 }
 
 pub returns : goal.returns
-returns c = answer_exact _ _ (λ j. (c.shared_slice_known-1.given j).fits) _ (c.groups_at.ensures ∙ sym (at_number _ _))
+returns c = let w = answer_exact _ _ (λ j. (c.type_inv.s j).fits) _ (c.groups_at.ensures ∙ sym (at_number _ _)) in record { number = w.0; exact = w.1 }

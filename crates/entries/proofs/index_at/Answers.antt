@@ -1,4 +1,4 @@
-use Rattle.fields.proofs.Base.{le-ltb, lt-ltb, ◌≡◌, sym, ◌∙◌, arith, ◌+◌, now}
+use Rattle.fields.proofs.Base.{le-ltb, lt-ltb, ◌≡◌, sym, ◌∙◌, arith, ◌+◌}
 use Rattle.entries.specs.Entry.{name_at, index_at}
 use Rattle.encint.specs.Encint.{encint_at}
 use Rattle.encint.specs.declared.Number.TheVariants.{Value}

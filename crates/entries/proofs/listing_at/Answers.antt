@@ -1,4 +1,4 @@
-use Rattle.fields.proofs.Base.{le-ltb, lt-ltb, le-leb, lt-leb, ◌≡◌, sym, ◌∙◌, ◌&&◌, ◌||◌, cond, arith, ◌+◌, leb, ltb, now}
+use Rattle.fields.proofs.Base.{le-ltb, lt-ltb, le-leb, lt-leb, ◌≡◌, sym, ◌∙◌, ◌&&◌, ◌||◌, cond, arith, ◌+◌, leb, ltb}
 use Rattle.entries.specs.Entry.{name_at, listing_at}
 use Rattle.encint.specs.Encint.{encint_at}
 use Rattle.encint.specs.declared.Number.TheVariants.{Value}

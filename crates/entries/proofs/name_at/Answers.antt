@@ -1,4 +1,4 @@
-use Rattle.fields.proofs.Base.{le-ltb, lt-ltb, le-leb, lt-leb, sym, ◌∙◌, arith, ◌+◌, length, now}
+use Rattle.fields.proofs.Base.{le-ltb, lt-ltb, le-leb, lt-leb, sym, ◌∙◌, arith, ◌+◌, length}
 use Rattle.entries.specs.Entry.{name_at}
 use Rattle.encint.proofs.Reading.{encint_next}
 use Rattle.entries.proofs.name_at.Goals as goal

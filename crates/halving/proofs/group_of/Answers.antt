@@ -1,9 +1,21 @@
-use Rattle.fields.proofs.Base.{refl, sym, ap, ◌∙◌, true, false, arith, now}
+use Rattle.fields.proofs.Base.{◌≡◌, refl, sym, ap, ◌∙◌, Bool, true, false, ℕ, ◌+◌, ◌-◌, ◌<◌, arith}
 use Rattle.names.specs.Order.{is_less}
 use Rattle.names.specs.Names.{compared}
-use Rattle.halving.specs.Halving.{group_above}
-use Rattle.halving.proofs.Halving.{halved_one, halvings_one, halvings_fuel}
+use Rattle.halving.specs.Halving.{group_above, middle}
+use Rattle.halving.proofs.Halving.{halved_one, halved_lower, halved_upper, halvings_one, halvings_lower, halvings_upper, halvings_fuel}
+use Rattle.halving.proofs.group_of.Invariants.{Left}
 use Rattle.halving.proofs.group_of.Goals as goal
+
+module _ (above : ℕ → Bool) (last lo hi turns : ℕ) (h : lo < hi) (l : Left above last lo hi turns) where
+  left_lower : above (middle lo hi) ≡ true → Left above last lo (middle lo hi - 1) (turns + 1)
+  left_lower m =
+      let q = halvings_lower above l.0 lo hi h l.1 m in
+      (l.0 - 1, omega arith, omega arith, omega arith, sym (halved_lower above l.0 lo hi h l.1 m) ∙ l.4, omega (arith, q))
+
+  left_upper : above (middle lo hi) ≡ false → Left above last (middle lo hi) hi (turns + 1)
+  left_upper m =
+      let q = halvings_upper above l.0 lo hi h l.1 m in
+      (l.0 - 1, omega arith, omega arith, omega arith, sym (halved_upper above l.0 lo hi h l.1 m) ∙ l.4, omega (arith, q))
 
 pub loop-lo-init : goal.loop-lo-init
 loop-lo-init c = (c.args.last, omega arith, omega arith, omega arith, refl, omega arith)

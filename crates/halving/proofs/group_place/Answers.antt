@@ -1,4 +1,4 @@
-use Rattle.fields.proofs.Base.{eq-eqb, ne_eqb, ◌+◌, ◌<◌, arith, length, get_or, now}
+use Rattle.fields.proofs.Base.{eq-eqb, ne_eqb, ◌+◌, ◌<◌, arith, length, get_or}
 use Rattle.fields.specs.Le.{le}
 use Rattle.chunk.proofs.Frame.{head_small}
 use Rattle.quickref.specs.Quickref.{group_at}
@@ -6,7 +6,7 @@ use Rattle.halving.proofs.group_place.Goals as goal
 
 pub returns-then-g-eq0 : goal.returns-then-g-eq0
 unfolding group_at
-returns-then-g-eq0 c = rw (eq-eqb _ _ c.if-g-eq0.true) c.??.first_place_lem.ensures
+returns-then-g-eq0 c = rw (eq-eqb _ _ c.if-g-eq0.true) c.first_place-first.ensures
 
 pub bounds-c-at : goal.bounds-c-at
 bounds-c-at c =
@@ -32,31 +32,31 @@ bounds-c-at-2 c =
 pub overflow_cast-high : goal.overflow_cast-high
 overflow_cast-high c =
     let small : let s = c.args.c.now in
-    (get_or s c.quick_place-at.result 0 < 256) × (get_or s (c.quick_place-at.result + 1) 0 < 256) × (c.??.first_place_lem.result < 256) =
-    ((c.type_inv.c c.quick_place-at.result).fits, (c.type_inv.c (c.quick_place-at.result + 1)).fits, omega (arith, c.??.first_place_lem.ensures, head_small c.args.kind)) in
+    (get_or s c.quick_place-at.result 0 < 256) × (get_or s (c.quick_place-at.result + 1) 0 < 256) × (c.first_place-first.result < 256) =
+    ((c.type_inv.c c.quick_place-at.result).fits, (c.type_inv.c (c.quick_place-at.result + 1)).fits, omega (arith, c.first_place-first.ensures, head_small c.args.kind)) in
     omega (arith, small)
 
 pub overflow_add-result : goal.overflow_add-result
 overflow_add-result c =
     let small : let s = c.args.c.now in
-    (get_or s c.quick_place-at.result 0 < 256) × (get_or s (c.quick_place-at.result + 1) 0 < 256) × (c.??.first_place_lem.result < 256) =
-    ((c.type_inv.c c.quick_place-at.result).fits, (c.type_inv.c (c.quick_place-at.result + 1)).fits, omega (arith, c.??.first_place_lem.ensures, head_small c.args.kind)) in
+    (get_or s c.quick_place-at.result 0 < 256) × (get_or s (c.quick_place-at.result + 1) 0 < 256) × (c.first_place-first.result < 256) =
+    ((c.type_inv.c c.quick_place-at.result).fits, (c.type_inv.c (c.quick_place-at.result + 1)).fits, omega (arith, c.first_place-first.ensures, head_small c.args.kind)) in
     omega (arith, small)
 
 pub overflow_mul-result : goal.overflow_mul-result
 overflow_mul-result c =
     let small : let s = c.args.c.now in
-    (get_or s c.quick_place-at.result 0 < 256) × (get_or s (c.quick_place-at.result + 1) 0 < 256) × (c.??.first_place_lem.result < 256) =
-    ((c.type_inv.c c.quick_place-at.result).fits, (c.type_inv.c (c.quick_place-at.result + 1)).fits, omega (arith, c.??.first_place_lem.ensures, head_small c.args.kind)) in
+    (get_or s c.quick_place-at.result 0 < 256) × (get_or s (c.quick_place-at.result + 1) 0 < 256) × (c.first_place-first.result < 256) =
+    ((c.type_inv.c c.quick_place-at.result).fits, (c.type_inv.c (c.quick_place-at.result + 1)).fits, omega (arith, c.first_place-first.ensures, head_small c.args.kind)) in
     omega (arith, small)
 
 pub overflow_add-result-2 : goal.overflow_add-result-2
 overflow_add-result-2 c =
     let small : let s = c.args.c.now in
-    (get_or s c.quick_place-at.result 0 < 256) × (get_or s (c.quick_place-at.result + 1) 0 < 256) × (c.??.first_place_lem.result < 256) =
-    ((c.type_inv.c c.quick_place-at.result).fits, (c.type_inv.c (c.quick_place-at.result + 1)).fits, omega (arith, c.??.first_place_lem.ensures, head_small c.args.kind)) in
+    (get_or s c.quick_place-at.result 0 < 256) × (get_or s (c.quick_place-at.result + 1) 0 < 256) × (c.first_place-first.result < 256) =
+    ((c.type_inv.c c.quick_place-at.result).fits, (c.type_inv.c (c.quick_place-at.result + 1)).fits, omega (arith, c.first_place-first.ensures, head_small c.args.kind)) in
     omega (arith, small)
 
 pub returns : goal.returns
 unfolding group_at le
-returns c = rw (ne_eqb _ _ c.if-g-eq0.false, ← c.quick_place-at.ensures, ← c.??.first_place_lem.ensures) (omega arith)
+returns c = rw (ne_eqb _ _ c.if-g-eq0.false, ← c.quick_place-at.ensures, ← c.first_place-first.ensures) (omega arith)

@@ -1,4 +1,4 @@
-use Rattle.fields.proofs.Base.{◌≡◌, sym, ap, ◌∙◌, ◌+◌, ◌≤◌, add-sub_cancel_left, arith, length, now}
+use Rattle.fields.proofs.Base.{◌≡◌, sym, ap, ◌∙◌, ◌+◌, ◌≤◌, add-sub_cancel_left, arith, length}
 use Rattle.names.specs.Order.{is_less}
 use Rattle.names.specs.Names.{below}
 use Rattle.encint.specs.declared.Number.TheVariants.{Value}

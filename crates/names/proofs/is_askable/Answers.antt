@@ -1,4 +1,4 @@
-use Rattle.fields.proofs.Base.{refl, arith, length, now, le-leb, lt-leb}
+use Rattle.fields.proofs.Base.{refl, arith, length, le-leb, lt-leb}
 use Rattle.names.proofs.is_askable.Goals as goal
 
 pub returns-then-name-lt1 : goal.returns-then-name-lt1

@@ -1,4 +1,4 @@
-use Rattle.fields.proofs.Base.{refl, sym, ◌∙◌, arith, now}
+use Rattle.fields.proofs.Base.{refl, sym, ◌∙◌, arith}
 use Rattle.quickref.proofs.Steps.{after_bad, after_on, after_here}
 use Rattle.quickref.proofs.entry_behind.Goals as goal
 

@@ -5,11 +5,11 @@ use Rattle.quickref.proofs.group_at.Goals as goal
 
 pub returns-then-g-eq0 : goal.returns-then-g-eq0
 unfolding group_at
-returns-then-g-eq0 c = rw (eq-eqb _ _ c.if-g-eq0.true) c.??.first_place_lem.ensures
+returns-then-g-eq0 c = rw (eq-eqb _ _ c.if-g-eq0.true) c.first_place-first.ensures
 
 pub overflow_add-result : goal.overflow_add-result
-overflow_add-result c = omega (arith, c.??.first_place_lem.ensures, head_small c.args.kind)
+overflow_add-result c = omega (arith, c.first_place-first.ensures, head_small c.args.kind)
 
 pub returns : goal.returns
 unfolding group_at
-returns c = rw (ne_eqb _ _ c.if-g-eq0.false, ← c.quick_place.ensures, ← c.??.first_place_lem.ensures, ← c.le16.ensures)
+returns c = rw (ne_eqb _ _ c.if-g-eq0.false, ← c.quick_place.ensures, ← c.first_place-first.ensures, ← c.le16.ensures)

@@ -1,4 +1,4 @@
-use Rattle.fields.proofs.Base.{◌≡◌, refl, sym, ap, ap₂, ◌∙◌, ℕ, ◌+◌, ◌-◌, ◌≤◌, ◌<◌, add-sub_cancel_left, arith, length, now}
+use Rattle.fields.proofs.Base.{◌≡◌, refl, sym, ap, ap₂, ◌∙◌, ℕ, ◌+◌, ◌-◌, ◌≤◌, ◌<◌, add-sub_cancel_left, arith, length}
 use Rattle.fields.specs.Part.{part}
 use Rattle.fields.proofs.Le.{le_lt}
 use Rattle.names.specs.Names.{compared}
@@ -51,7 +51,7 @@ child_of-requires c =
     → (left ≤ c.group_for-group.result.size) × (c.group_for-group.result.size < 65536) × (c.group_for-group.result.count < 65536) =
     λ left h. let a = c.args in
     spent_fits a.limits Index a.c.now (compared a.name.now) _ _ c.group_for-group.ensures.1 c.group_for-group.ensures.2
-    (le_lt a.c.now (λ j. (c.type_inv.c j).fits) 2 count_place) left (omega (arith, h, c.??.loop.invariant.3)) in
+    (le_lt a.c.now (λ j. (c.type_inv.c j).fits) 2 count_place) left (omega (arith, h, c.loop-left.invariant.3)) in
     room _ (omega arith)
 
 pub returns-in_default : goal.returns-in_default
@@ -110,7 +110,7 @@ child_of-requires-in-Less c =
     → (left ≤ c.group_for-group.result.size) × (c.group_for-group.result.size < 65536) × (c.group_for-group.result.count < 65536) =
     λ left h. let a = c.args in
     spent_fits a.limits Index a.c.now (compared a.name.now) _ _ c.group_for-group.ensures.1 c.group_for-group.ensures.2
-    (le_lt a.c.now (λ j. (c.type_inv.c j).fits) 2 count_place) left (omega (arith, h, c.??.loop.invariant.3)) in
+    (le_lt a.c.now (λ j. (c.type_inv.c j).fits) 2 count_place) left (omega (arith, h, c.loop-left.invariant.3)) in
     room _ (omega arith)
 
 pub returns-in-Less : goal.returns-in-Less
@@ -137,7 +137,7 @@ child_of-requires-in-Equal c =
     → (left ≤ c.group_for-group.result.size) × (c.group_for-group.result.size < 65536) × (c.group_for-group.result.count < 65536) =
     λ left h. let a = c.args in
     spent_fits a.limits Index a.c.now (compared a.name.now) _ _ c.group_for-group.ensures.1 c.group_for-group.ensures.2
-    (le_lt a.c.now (λ j. (c.type_inv.c j).fits) 2 count_place) left (omega (arith, h, c.??.loop.invariant.3)) in
+    (le_lt a.c.now (λ j. (c.type_inv.c j).fits) 2 count_place) left (omega (arith, h, c.loop-left.invariant.3)) in
     room _ (omega arith)
 
 pub returns-in-Equal : goal.returns-in-Equal
@@ -167,7 +167,7 @@ child_of-requires-in_default-read c =
     → (left ≤ c.group_for-group.result.size) × (c.group_for-group.result.size < 65536) × (c.group_for-group.result.count < 65536) =
     λ left h. let a = c.args in
     spent_fits a.limits Index a.c.now (compared a.name.now) _ _ c.group_for-group.ensures.1 c.group_for-group.ensures.2
-    (le_lt a.c.now (λ j. (c.type_inv.c j).fits) 2 count_place) left (omega (arith, h, c.??.loop.invariant.3)) in
+    (le_lt a.c.now (λ j. (c.type_inv.c j).fits) 2 count_place) left (omega (arith, h, c.loop-left.invariant.3)) in
     room _ (omega arith)
 
 pub returns-in_default-read : goal.returns-in_default-read
@@ -200,7 +200,7 @@ child_of-requires-then-limits-child c =
     → (left ≤ c.group_for-group.result.size) × (c.group_for-group.result.size < 65536) × (c.group_for-group.result.count < 65536) =
     λ left h. let a = c.args in
     spent_fits a.limits Index a.c.now (compared a.name.now) _ _ c.group_for-group.ensures.1 c.group_for-group.ensures.2
-    (le_lt a.c.now (λ j. (c.type_inv.c j).fits) 2 count_place) left (omega (arith, h, c.??.loop.invariant.3)) in
+    (le_lt a.c.now (λ j. (c.type_inv.c j).fits) 2 count_place) left (omega (arith, h, c.loop-left.invariant.3)) in
     room _ (omega arith)
 
 pub returns-then-limits-child : goal.returns-then-limits-child
@@ -263,7 +263,7 @@ child_of-requires-2 c =
     → (left ≤ c.group_for-group.result.size) × (c.group_for-group.result.size < 65536) × (c.group_for-group.result.count < 65536) =
     λ left h. let a = c.args in
     spent_fits a.limits Index a.c.now (compared a.name.now) _ _ c.group_for-group.ensures.1 c.group_for-group.ensures.2
-    (le_lt a.c.now (λ j. (c.type_inv.c j).fits) 2 count_place) left (omega (arith, h, c.??.loop.invariant.3)) in
+    (le_lt a.c.now (λ j. (c.type_inv.c j).fits) 2 count_place) left (omega (arith, h, c.loop-left.invariant.3)) in
     room _ (omega arith)
 
 pub returns : goal.returns

@@ -1,4 +1,4 @@
-use Rattle.fields.proofs.Base.{◌≡◌, sym, ap, ◌∙◌, ℕ, ◌+◌, ◌-◌, ◌≤◌, ◌<◌, add-sub_cancel_left, arith, now}
+use Rattle.fields.proofs.Base.{◌≡◌, sym, ap, ◌∙◌, ℕ, ◌+◌, ◌-◌, ◌≤◌, ◌<◌, add-sub_cancel_left, arith}
 use Rattle.fields.proofs.Le.{le_lt}
 use Rattle.names.specs.Names.{compared}
 use Rattle.entries.specs.Entry.{item_at, name_of}
@@ -37,7 +37,7 @@ spent-requires c =
     → (left ≤ c.group_for-group.result.size) × (c.group_for-group.result.size < 65536) × (c.group_for-group.result.count < 65536) =
     λ left h. let a = c.args in
     spent_fits a.limits Listing a.c.now (compared a.name.now) _ _ c.group_for-group.ensures.1 c.group_for-group.ensures.2
-    (le_lt a.c.now (λ j. (c.type_inv.c j).fits) 2 count_place) left (omega (arith, h, c.??.loop.invariant.0)) in
+    (le_lt a.c.now (λ j. (c.type_inv.c j).fits) 2 count_place) left (omega (arith, h, c.loop-left.invariant.0)) in
     room _ (omega arith)
 
 pub returns-in_default : goal.returns-in_default
@@ -64,7 +64,7 @@ overflow_add-start c =
     item_at a.limits Listing a.c.now c.loop-left.at ≡ Good c.in-Good.e =
     sym c.listing_at.ensures ∙ c.in-Good.is in
     let name_inside : Inside c.args.c.now c.loop-left.at c.in-Good.e =
-    item_inside _ _ _ _ _ (read_is) in
+    item_inside c.args.limits Listing c.args.c.now c.loop-left.at c.in-Good.e read_is in
     omega (arith, (name_inside).name)
 
 pub slice_bounds-compare-count : goal.slice_bounds-compare-count
@@ -74,7 +74,7 @@ slice_bounds-compare-count c =
     item_at a.limits Listing a.c.now c.loop-left.at ≡ Good c.in-Good.e =
     sym c.listing_at.ensures ∙ c.in-Good.is in
     let name_inside : Inside c.args.c.now c.loop-left.at c.in-Good.e =
-    item_inside _ _ _ _ _ (read_is) in
+    item_inside c.args.limits Listing c.args.c.now c.loop-left.at c.in-Good.e read_is in
     omega (arith, (name_inside).name)
 
 pub slice_bounds-compare-start : goal.slice_bounds-compare-start
@@ -84,7 +84,7 @@ slice_bounds-compare-start c =
     item_at a.limits Listing a.c.now c.loop-left.at ≡ Good c.in-Good.e =
     sym c.listing_at.ensures ∙ c.in-Good.is in
     let name_inside : Inside c.args.c.now c.loop-left.at c.in-Good.e =
-    item_inside _ _ _ _ _ (read_is) in
+    item_inside c.args.limits Listing c.args.c.now c.loop-left.at c.in-Good.e read_is in
     omega (arith, (name_inside).name)
 
 pub slice_bounds-compare-end : goal.slice_bounds-compare-end
@@ -94,7 +94,7 @@ slice_bounds-compare-end c =
     item_at a.limits Listing a.c.now c.loop-left.at ≡ Good c.in-Good.e =
     sym c.listing_at.ensures ∙ c.in-Good.is in
     let name_inside : Inside c.args.c.now c.loop-left.at c.in-Good.e =
-    item_inside _ _ _ _ _ (read_is) in
+    item_inside c.args.limits Listing c.args.c.now c.loop-left.at c.in-Good.e read_is in
     omega (arith, (name_inside).name)
 
 pub spent-requires-in-Less : goal.spent-requires-in-Less
@@ -103,7 +103,7 @@ spent-requires-in-Less c =
     → (left ≤ c.group_for-group.result.size) × (c.group_for-group.result.size < 65536) × (c.group_for-group.result.count < 65536) =
     λ left h. let a = c.args in
     spent_fits a.limits Listing a.c.now (compared a.name.now) _ _ c.group_for-group.ensures.1 c.group_for-group.ensures.2
-    (le_lt a.c.now (λ j. (c.type_inv.c j).fits) 2 count_place) left (omega (arith, h, c.??.loop.invariant.0)) in
+    (le_lt a.c.now (λ j. (c.type_inv.c j).fits) 2 count_place) left (omega (arith, h, c.loop-left.invariant.0)) in
     room _ (omega arith)
 
 pub returns-in-Less : goal.returns-in-Less
@@ -131,7 +131,7 @@ spent-requires-in-Equal c =
     → (left ≤ c.group_for-group.result.size) × (c.group_for-group.result.size < 65536) × (c.group_for-group.result.count < 65536) =
     λ left h. let a = c.args in
     spent_fits a.limits Listing a.c.now (compared a.name.now) _ _ c.group_for-group.ensures.1 c.group_for-group.ensures.2
-    (le_lt a.c.now (λ j. (c.type_inv.c j).fits) 2 count_place) left (omega (arith, h, c.??.loop.invariant.0)) in
+    (le_lt a.c.now (λ j. (c.type_inv.c j).fits) 2 count_place) left (omega (arith, h, c.loop-left.invariant.0)) in
     room _ (omega arith)
 
 pub returns-in-Equal : goal.returns-in-Equal
@@ -178,7 +178,7 @@ spent-requires-2 c =
     → (left ≤ c.group_for-group.result.size) × (c.group_for-group.result.size < 65536) × (c.group_for-group.result.count < 65536) =
     λ left h. let a = c.args in
     spent_fits a.limits Listing a.c.now (compared a.name.now) _ _ c.group_for-group.ensures.1 c.group_for-group.ensures.2
-    (le_lt a.c.now (λ j. (c.type_inv.c j).fits) 2 count_place) left (omega (arith, h, c.??.loop.invariant.0)) in
+    (le_lt a.c.now (λ j. (c.type_inv.c j).fits) 2 count_place) left (omega (arith, h, c.loop-left.invariant.0)) in
     room _ (omega arith)
 
 pub returns : goal.returns
