@@ -20,7 +20,7 @@ overflow_add-first c =
     let turn : let a = c.args in
     Turn a.content a.input.now a.starts.now a.from.kind a.from.left a.from.at a.n c.loop-e.out c.loop-e.f c.loop-e.invariant.1 c.in-Entry.e c.in-Entry.bytes (next) =
     putting_turn _ _ _ _ _ _ _ _ _ _ _ _ _ in
-    omega (arith, (turn).ranges, c.??.first_place_lem.ensures)
+    omega (arith, (turn).ranges, c.first_place-first.ensures)
 
 pub put_entry-requires : goal.put_entry-requires
 put_entry-requires c =
@@ -32,7 +32,7 @@ put_entry-requires c =
     let turn : let a = c.args in
     Turn a.content a.input.now a.starts.now a.from.kind a.from.left a.from.at a.n c.loop-e.out c.loop-e.f c.loop-e.invariant.1 c.in-Entry.e c.in-Entry.bytes (next) =
     putting_turn _ _ _ _ _ _ _ _ _ _ _ _ _ in
-    (omega (arith, (turn).ranges, whole_size, c.??.first_place_lem.ensures), (next).inside)
+    (omega (arith, (turn).ranges, whole_size, c.first_place-first.ensures), (next).inside)
 
 pub put_quick_word-requires : goal.put_quick_word-requires
 put_quick_word-requires c =
@@ -77,4 +77,4 @@ loop-e-preserved c =
     fitted _ _ _ _ _ _ _ _ _ _ _ (sym c.next_fit.ensures ∙ c.in-Entry.is) in
     let p = c.put_entry in
     let m = c.put_quick_word in
-    (m.auto.0 ∙ p.auto.0 ∙ c.loop-e.invariant.0, putting_more _ _ _ _ _ _ _ _ _ c.loop-e.invariant.1 _ _ (next) _ _ _ c.??.first_place_lem.ensures p.ensures m.ensures)
+    (m.auto.0 ∙ p.auto.0 ∙ c.loop-e.invariant.0, putting_more _ _ _ _ _ _ _ _ _ c.loop-e.invariant.1 _ _ (next) _ _ _ c.first_place-first.ensures p.ensures m.ensures)

@@ -8,7 +8,7 @@ use Rattle.compose.proofs.put_frame.Goals as goal
 
 pub returns : goal.returns
 returns c = let u = c.put_chunk_header in
-    let h = c.??.first_place_lem in
+    let h = c.first_place in
     let a = c.args in
     let n : 4096 - (h.result + a.used) ≡ 4096 - (first_place a.kind + a.used) = ap (λ (m : ℕ). 4096 - (m + a.used)) h.ensures in
     let l : length u.new.0 ≡ 4096 = u.auto.0 ∙ c.requires.0 in

@@ -4,7 +4,7 @@ use Rattle.layout.proofs.following.Goals as goal
 
 pub returns-then-m-c : goal.returns-then-m-c
 unfolding new_next
-returns-then-m-c c = rw (le-ltb (c.args.c + 1) c.args.m (omega arith)) c.??.no_Chunk.ensures
+returns-then-m-c c = rw (le-ltb (c.args.c + 1) c.args.m (omega arith)) c.no_chunk.ensures
 
 pub returns-then-c-m : goal.returns-then-c-m
 unfolding new_next

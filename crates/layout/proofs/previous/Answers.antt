@@ -4,7 +4,7 @@ use Rattle.layout.proofs.previous.Goals as goal
 
 pub returns-then-c-eq0 : goal.returns-then-c-eq0
 unfolding new_previous
-returns-then-c-eq0 c = rw (eq-eqb c.args.c 0 c.if-c-eq0.true) c.??.no_Chunk.ensures
+returns-then-c-eq0 c = rw (eq-eqb c.args.c 0 c.if-c-eq0.true) c.no_chunk.ensures
 
 pub returns : goal.returns
 unfolding new_previous

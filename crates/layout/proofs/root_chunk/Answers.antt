@@ -4,7 +4,7 @@ use Rattle.layout.proofs.root_chunk.Goals as goal
 
 pub returns-then-depth-eq1 : goal.returns-then-depth-eq1
 unfolding new_root
-returns-then-depth-eq1 c = rw (eq-eqb c.args.depth 1 c.if-depth-eq1.true) c.??.no_Chunk.ensures
+returns-then-depth-eq1 c = rw (eq-eqb c.args.depth 1 c.if-depth-eq1.true) c.no_chunk.ensures
 
 pub returns-then-count-eq0 : goal.returns-then-count-eq0
 unfolding new_root

@@ -14,10 +14,10 @@ returns-then-words-gt2047 c = let a = c.args in
     sym (lt-leb _ _ l)
 
 pub overflow_add-result : goal.overflow_add-result
-overflow_add-result c = omega (arith, c.??.first_place_lem.ensures, head_small c.args.kind)
+overflow_add-result c = omega (arith, c.first_place.ensures, head_small c.args.kind)
 
 pub overflow_add-result-3 : goal.overflow_add-result-3
-overflow_add-result-3 c = omega (arith, c.??.first_place_lem.ensures, head_small c.args.kind)
+overflow_add-result-3 c = omega (arith, c.first_place.ensures, head_small c.args.kind)
 
 pub returns : goal.returns
-returns c = rw (c.??.first_place_lem.ensures, c.quick_words-words.ensures)
+returns c = rw (c.first_place.ensures, c.quick_words-words.ensures)

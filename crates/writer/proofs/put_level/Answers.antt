@@ -13,15 +13,15 @@ pub slice_bounds-step-end : goal.slice_bounds-step-end
 slice_bounds-step-end c = sym (length-take-le c.before.before.before.before.before.args.end c.before.before.before.before.before.args.starts.now c.before.before.before.before.before.requires.known)
 
 pub shape_of-out-in_default : goal.shape_of-out-in_default
-shape_of-out-in_default c = c.??.loop.invariant.1.kept
+shape_of-out-in_default c = c.loop-out.invariant.1.kept
 
 pub returns-in_default : goal.returns-in_default
 returns-in_default c =
     let end_is : let a = l.before.before.before.before.args in
-    rows_from a.content a.input.now (take a.end a.starts.now) a.from.kind c.??.loop.c.left c.??.loop.c.at ≡ [] =
-    let l = c.??.loop in
+    rows_from a.content a.input.now (take a.end a.starts.now) a.from.kind c.loop-out.c.left c.loop-out.c.at ≡ [] =
+    let l = c.loop-out in
     run_end _ _ _ (sym (rw l.invariant.0 at c.step.ensures) ∙ c.in_default.is) in
-    leveled_end _ _ _ _ _ _ _ _ _ _ _ _ _ _ c.??.loop.invariant.1 (end_is)
+    leveled_end _ _ _ _ _ _ _ _ _ _ _ _ _ _ c.loop-out.invariant.1 (end_is)
 
 pub slice_bounds-put_chunk-end : goal.slice_bounds-put_chunk-end
 slice_bounds-put_chunk-end c = sym (length-take-le c.before.before.before.before.before.before.before.before.before.before.args.end c.before.before.before.before.before.before.before.before.before.before.args.starts.now c.before.before.before.before.before.before.before.before.before.before.requires.known)
@@ -29,45 +29,45 @@ slice_bounds-put_chunk-end c = sym (length-take-le c.before.before.before.before
 pub put_chunk-f-requires : goal.put_chunk-f-requires
 put_chunk-f-requires c =
     let read_is : let a = l.before.before.before.before.args in
-    Stepped c.??.loop.c.left (item_from a.content a.input.now (take a.end a.starts.now) a.from.kind c.??.loop.c.at) c.in-Good.field-0 =
-    let l = c.??.loop in
+    Stepped c.loop-out.c.left (item_from a.content a.input.now (take a.end a.starts.now) a.from.kind c.loop-out.c.at) c.in-Good.field-0 =
+    let l = c.loop-out in
     taken_entry _ _ _ (sym (rw l.invariant.0 at c.step.ensures) ∙ c.in-Good.is) in
-    let room_is : let l = c.??.loop in (204 + 4096 * (l.j + 1) ≤ length l.out) × (l.j < 4096) =
-    leveled_room _ _ _ _ _ _ _ _ _ _ _ _ _ _ c.??.loop.invariant.1 _ (read_is).some (read_is).item l.before.before.before.before.requires in
+    let room_is : let l = c.loop-out in (204 + 4096 * (l.j + 1) ≤ length l.out) × (l.j < 4096) =
+    leveled_room _ _ _ _ _ _ _ _ _ _ _ _ _ _ c.loop-out.invariant.1 _ (read_is).some (read_is).item l.before.before.before.before.requires in
     room_is
 
 pub overflow_add-j : goal.overflow_add-j
 overflow_add-j c =
     let read_is : let a = l.before.before.before.before.args in
-    Stepped c.??.loop.c.left (item_from a.content a.input.now (take a.end a.starts.now) a.from.kind c.??.loop.c.at) c.in-Good.field-0 =
-    let l = c.??.loop in
+    Stepped c.loop-out.c.left (item_from a.content a.input.now (take a.end a.starts.now) a.from.kind c.loop-out.c.at) c.in-Good.field-0 =
+    let l = c.loop-out in
     taken_entry _ _ _ (sym (rw l.invariant.0 at c.step.ensures) ∙ c.in-Good.is) in
-    let room_is : let l = c.??.loop in (204 + 4096 * (l.j + 1) ≤ length l.out) × (l.j < 4096) =
-    leveled_room _ _ _ _ _ _ _ _ _ _ _ _ _ _ c.??.loop.invariant.1 _ (read_is).some (read_is).item l.before.before.before.before.requires in
+    let room_is : let l = c.loop-out in (204 + 4096 * (l.j + 1) ≤ length l.out) × (l.j < 4096) =
+    leveled_room _ _ _ _ _ _ _ _ _ _ _ _ _ _ c.loop-out.invariant.1 _ (read_is).some (read_is).item l.before.before.before.before.requires in
     omega (arith, (room_is).1)
 
 pub loop-out-smaller : goal.loop-out-smaller
 loop-out-smaller c =
     let read_is : let a = l.before.before.before.before.args in
-    Stepped c.??.loop.c.left (item_from a.content a.input.now (take a.end a.starts.now) a.from.kind c.??.loop.c.at) c.in-Good.field-0 =
-    let l = c.??.loop in
+    Stepped c.loop-out.c.left (item_from a.content a.input.now (take a.end a.starts.now) a.from.kind c.loop-out.c.at) c.in-Good.field-0 =
+    let l = c.loop-out in
     taken_entry _ _ _ (sym (rw l.invariant.0 at c.step.ensures) ∙ c.in-Good.is) in
     let takes_is : let a = l.before.before.before.before.args in
-    c.put_chunk-f.result ≡ extent_from a.from.kind a.n 0 0 c.??.loop.c.at c.??.loop.c.left (rows_from a.content a.input.now (take a.end a.starts.now) a.from.kind c.??.loop.c.left c.??.loop.c.at) =
-    let l = c.??.loop in rw l.invariant.0 at c.put_chunk-f.ensures.0 in
+    c.put_chunk-f.result ≡ extent_from a.from.kind a.n 0 0 c.loop-out.c.at c.loop-out.c.left (rows_from a.content a.input.now (take a.end a.starts.now) a.from.kind c.loop-out.c.left c.loop-out.c.at) =
+    let l = c.loop-out in rw l.invariant.0 at c.put_chunk-f.ensures.0 in
     let i = read_is in
     (chunks_more _ _ _ _ _ _ _ _ _ i.some i.item (takes_is)).less
 
 pub loop-out-preserved : goal.loop-out-preserved
 loop-out-preserved c =
     let read_is : let a = l.before.before.before.before.args in
-    Stepped c.??.loop.c.left (item_from a.content a.input.now (take a.end a.starts.now) a.from.kind c.??.loop.c.at) c.in-Good.field-0 =
-    let l = c.??.loop in
+    Stepped c.loop-out.c.left (item_from a.content a.input.now (take a.end a.starts.now) a.from.kind c.loop-out.c.at) c.in-Good.field-0 =
+    let l = c.loop-out in
     taken_entry _ _ _ (sym (rw l.invariant.0 at c.step.ensures) ∙ c.in-Good.is) in
     let takes_is : let a = l.before.before.before.before.args in
-    c.put_chunk-f.result ≡ extent_from a.from.kind a.n 0 0 c.??.loop.c.at c.??.loop.c.left (rows_from a.content a.input.now (take a.end a.starts.now) a.from.kind c.??.loop.c.left c.??.loop.c.at) =
-    let l = c.??.loop in rw l.invariant.0 at c.put_chunk-f.ensures.0 in
-    let l = c.??.loop in
+    c.put_chunk-f.result ≡ extent_from a.from.kind a.n 0 0 c.loop-out.c.at c.loop-out.c.left (rows_from a.content a.input.now (take a.end a.starts.now) a.from.kind c.loop-out.c.left c.loop-out.c.at) =
+    let l = c.loop-out in rw l.invariant.0 at c.put_chunk-f.ensures.0 in
+    let l = c.loop-out in
     let i = read_is in
     let w = c.put_chunk-f in
     (refl, leveled_turn _ _ _ _ _ _ _ _ _ _ _ _ _ _ l.invariant.1 _ i.some i.item _ _ (takes_is) (rw l.invariant.0 at w.ensures.1) w.auto.0)
