@@ -11,6 +11,7 @@ import re
 top = pathlib.Path(__file__).resolve().parents[1]
 TOKEN = re.compile(r'«[^»]*»|"(?:[^"\\]|\\.)*"|[(){}.;,@]|[^\s(){}.;,@"«»]+')
 MARKS = ('pub', 'abbrev', 'unfoldable', 'axiom')
+LISTED = r'(\w+)(?: [^:#]*)?:(.*)'             # a line of crates.txt: a crate, what kind it is where it is no plain one, and what it depends on
 WORDS = set('data record deriving module where use mod pub package using open as unfoldable abbrev axiom unfold unfolding ruleset mutual infix infixl infixr '
             'elim let in do λ ∀ Type → ← ↦ = : | _'.split())
 Token = collections.namedtuple('Token', 'text line column dotted tight')     # behind a dot; that dot right behind a name
@@ -42,7 +43,7 @@ def tokens(text, line=1):
 
 def parts(name):
     """What of a name stands between the arguments of an operator."""
-    return [part for part in name.split('_') if part] if '_' in name and name != '_' else [name]
+    return [part for part in name.split('◌') if part] if '◌' in name else [name]
 
 
 class Import:
@@ -98,7 +99,7 @@ class File:
         self.path, self.crate = path, crate
         inside = path.relative_to(top / 'crates' / crate).with_suffix('').parts
         self.folder, self.module = inside[0], '.'.join(inside[1:])
-        self.function = path.name == 'Proof.antt'
+        self.function = self.folder == 'proofs' and path.name in ('Invariants.antt', 'Answers.antt', 'Proof.antt') and len(inside) > 2
         self.text = path.read_text()
         self.rows = self.text.split('\n')
         self.bare = uncommented(self.text).split('\n')
@@ -414,8 +415,18 @@ class Function:
         return cited
 
 
+def clauses_of(text):
+    """(its word, its text, its first character, its last) of each clause of a function's text."""
+    for m in re.finditer(r'^ *(ensures|requires)\*?(?: \w+)? \{', text, re.M):
+        end, deep = m.end(), 1
+        while deep:
+            deep += (text[end] == '{') - (text[end] == '}')
+            end += 1
+        yield m[1], text[m.end():end - 1], m.start(), end
+
+
 class Source:
-    """An .rt file."""
+    """An .rt file; `code` is its text without comments and clauses; `tactics` what attributes hand to the prover: (module, name)."""
 
     def __init__(self, path, crate):
         self.path, self.crate, self.folder, self.module, self.function = path, crate, 'src', path.stem, False
@@ -451,8 +462,17 @@ class Source:
                 if i.alias:
                     self.local[i.alias] = (i.module, None)
         self.read_functions()
-        for m in re.finditer(r'^(pub )?(struct|enum|type) (\w+)', '\n'.join(self.bare), re.M):
+        text = '\n'.join(self.bare)
+        for m in re.finditer(r'^(pub )?(struct|enum|type) (\w+)', text, re.M):
             self.types[m[3]] = m[2]
+        self.code = text
+        for _, _, first, end in clauses_of(text):
+            self.code = self.code[:first] + re.sub(r'[^\n]', ' ', text[first:end]) + self.code[end:]
+        self.tactics = []
+        for those in re.findall(r'#!?\[tactic\((.*)\)\]', text):
+            for path in re.findall(r'[\w\']+(?:::[\w\']+)+', those):
+                words = path.split('::')
+                self.tactics.append(('.'.join(['Rattle', crate if words[0] == 'crate' else words[0], *words[1:-1]]), words[-1]))
 
     def read_functions(self):
         text = '\n'.join(self.bare)
@@ -460,9 +480,9 @@ class Source:
         owners = [(m.start(), m[1]) for m in re.finditer(r'^impl (\w+)', text, re.M)]
         for m in re.finditer(r'^( *)(pub )?(?:extern "C" )?fn (\w+)', text, re.M):
             end = text.index('\n' + m[1] + '}', m.start()) if re.search(r'\{', text[m.start():]) else len(text)
-            rows = text[m.start():end].split('\n')
-            ensures = [r.split('{', 1)[1].rsplit('}', 1)[0] for r in rows if re.match(r'\s*ensures\b', r)]
-            requires = [r.split('{', 1)[1].rsplit('}', 1)[0] for r in rows if re.match(r'\s*requires\b', r)]
+            clauses = list(clauses_of(text[m.start():end]))
+            ensures = [said for word, said, _, _ in clauses if word == 'ensures']
+            requires = [said for word, said, _, _ in clauses if word == 'requires']
             owner = next((name for at, name in reversed(owners) if at < m.start()), None) if m[1] else None
             self.functions.append(Function(self, m[3], owner, bool(m[2]), bisect.bisect(starts, m.start()) + 1, ensures, requires))
 
@@ -474,7 +494,7 @@ class Crates:
         self.depends = {}
         self.order = []
         for row in (top / 'crates.txt').read_text().split('\n'):
-            m = re.match(r'([\w-]+):(.*)', row)
+            m = re.match(LISTED, row)
             if m:
                 self.depends[m[1]] = m[2].split()
                 self.order.append(m[1])
@@ -489,7 +509,7 @@ class Crates:
 
     def file_of(self, module):
         """The file that a module path means, and what is left of the path."""
-        m = re.match(r'Rattle·(\w+)(?:·(?:specs|proofs))?\.(specs|proofs)\.(.*)', module)
+        m = re.match(r'Rattle\.(\w+)\.(specs|proofs)\.(.*)', module)
         if not m:
             return None, None
         words = m[3].split('.')
@@ -516,6 +536,11 @@ class Crates:
                     if local == name:
                         return self.find(i.module, original, seen + (module,))
         return None
+
+    def of_repository(self, module):
+        """Whether a module path is of a crate of this repository."""
+        m = re.match(r'Rattle\.(\w+)\.', module)
+        return m is not None and m[1] in self.depends
 
     def home(self, module, name):
         """The module that a name of a module comes from, where that one only hands it on."""
@@ -561,11 +586,11 @@ def operators(file, word):
     if not hasattr(file, 'operators_by_part'):
         file.operators_by_part = collections.defaultdict(list)
         for name in list(file.local) + list(file.by_name):
-            if '_' in name and name != '_':
+            if '◌' in name:
                 for part in parts(name):
                     file.operators_by_part[part].append(name)
     found = list(file.operators_by_part.get(word, ()))
-    if '_' in word:
+    if '◌' in word:
         for part in parts(word):
             found += file.operators_by_part.get(part, ())
     return found

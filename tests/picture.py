@@ -16,7 +16,7 @@ def read():
     """The crates of each group, and what each depends on; what comes with the kit is left out."""
     groups, depends = [], {}
     for row in (top / 'crates.txt').read_text().split('\n'):
-        m = re.match(r'([\w-]+):(.*)', row)
+        m = re.match(r'(\w+)(?: [^:#]*)?:(.*)', row)
         if row.startswith('#'):
             groups.append((row.strip('# '), []))
         elif m:

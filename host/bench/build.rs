@@ -19,7 +19,7 @@ fn main() {
     println!("cargo:rustc-link-lib=static=bench_names");
     if !library.is_file() {
         println!(
-            "cargo:warning={} is not there, so this cannot be linked: `rt staticlib bench_names`, run at the top of the repository, proves and builds it",
+            "cargo:warning={} is not there, so this cannot be linked: `python3 tests/archive.py bench_names`, run at the top of the repository, proves and builds it",
             library.display()
         );
     }

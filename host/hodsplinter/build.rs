@@ -31,7 +31,7 @@ fn library() -> PathBuf {
 
 fn missing(library: &Path) -> ! {
     eprintln!(
-        "the static library {} is not there: `rt staticlib hodsplinter`, run at the top of the repository, proves and builds it; \
+        "the static library {} is not there: `make library`, run at the top of the repository, proves and builds it; \
          HODSPLINTER_LIB can name another {} or its folder (an absolute path)",
         library.display(),
         FILE

@@ -1,13 +1,10 @@
 -- What a chunk number leads to tells of the chunk: whether it is below the count and of a kind, and its links.
-use Rattle.fields.proofs.Base.{◌≡◌, refl, sym, ap, ◌∙◌, inl, inr, Bool, true, false, cond, ◌&&◌, List, [], ◌∷◌, ℕ, ◌<◌, arith, ltb, lt-ltb}
-use types.Run.{OneOf}
-use denote.Enum.Declared.{tag_of}
+use Rattle.fields.proofs.Base.{◌≡◌, refl, sym, ap, ◌∙◌, Bool, true, false, cond, ◌&&◌, List, ℕ, ◌<◌, arith, ltb, lt-ltb}
 use Rattle.entries.specs.declared.Kind.{Kind}
 use Rattle.chunk.specs.Chunk.{Parsed, bad, listing, index, is_kind}
 use Rattle.chunk.specs.Answer.{chunk_of}
 use Rattle.chunk.specs.declared.Chunk.{Chunk}
 use Rattle.chunk.specs.declared.Chunk.TheVariants.{Refused, Listing, Index}
-use Rattle.chunk.specs.contracts.Chunk as chunk-type
 use Rattle.header.specs.declared.Record.{Record}
 use Rattle.tree.specs.Shape.{is_listing, previous_of, next_of, listing_chunk, index_chunk}
 use Rattle.book.specs.Book.{directory_of, shape_of, checked_chunk}
@@ -43,15 +40,15 @@ linked_of true (index es) a b e = absurd (let z : ◌≡◌ {A = ℕ} 0 1 = cc i
 linked_of false p a b e = absurd (let z : ◌≡◌ {A = ℕ} 0 1 = cc in omega arith)
 
 -- an answer that is no listing chunk, and one that is no index chunk
-not_listing : (x : Chunk) → OneOf (0 ∷ 2 ∷ []) (tag_of chunk-type.the_type x) → is_of Kind.Listing x ≡ false
+not_listing : (x : Chunk) → ((p n : ℕ) → x ≡ Listing p n → ⊥) → is_of Kind.Listing x ≡ false
 not_listing (Refused n) h = refl
-not_listing (Listing p n) h = elim h [ inl e ↦ absurd (omega arith) | inr e ↦ absurd (omega arith) ]
+not_listing (Listing p n) h = absurd (h p n refl)
 not_listing Index h = refl
 
-not_index : (x : Chunk) → OneOf (0 ∷ 1 ∷ []) (tag_of chunk-type.the_type x) → is_of Kind.Index x ≡ false
+not_index : (x : Chunk) → (x ≡ Index → ⊥) → is_of Kind.Index x ≡ false
 not_index (Refused n) h = refl
 not_index (Listing p n) h = refl
-not_index Index h = elim h [ inl e ↦ absurd (omega arith) | inr e ↦ absurd (omega arith) ]
+not_index Index h = absurd (h refl)
 
 module _ (s : List ℕ) (book : Record) (c : ℕ) where
   listing_is : listing_chunk (directory_of s book) (shape_of book) c ≡ is_of Kind.Listing (checked_chunk s book c)
@@ -87,10 +84,10 @@ module _ (s : List ℕ) (book : Record) (c : ℕ) where
 
   -- the same of an answer x where only one kind was looked for
   module _ (x : Chunk) (e : x ≡ checked_chunk s book c) where
-    pub checked_no_listing : OneOf (0 ∷ 2 ∷ []) (tag_of chunk-type.the_type x) → listing_chunk (directory_of s book) (shape_of book) c ≡ false
+    pub checked_no_listing : ((p n : ℕ) → x ≡ Listing p n → ⊥) → listing_chunk (directory_of s book) (shape_of book) c ≡ false
     checked_no_listing h = listing_is ∙ (ap (is_of Kind.Listing) (sym e) ∙ not_listing x h)
 
-    pub checked_no_index : OneOf (0 ∷ 1 ∷ []) (tag_of chunk-type.the_type x) → index_chunk (directory_of s book) (shape_of book) c ≡ false
+    pub checked_no_index : (x ≡ Index → ⊥) → index_chunk (directory_of s book) (shape_of book) c ≡ false
     checked_no_index h = index_is ∙ (ap (is_of Kind.Index) (sym e) ∙ not_index x h)
 
   -- below the count it is what the chunk means

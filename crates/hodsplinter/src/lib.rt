@@ -21,16 +21,14 @@ use listing::Cursor;
 use numbers::Numbers;
 
 // The order of names: 0 where a comes before b, 1 where they are equal, 2 where a comes behind b.
-#[unsafe(no_mangle)]
-pub extern "C" fn hods_name_order(a: &[u8], b: &[u8]) -> u64
+pub fn hods_name_order(a: &[u8], b: &[u8]) -> u64
     ensures { result ≡ order_code (compared a.now b.now) }
 {
     names::order_of(a, b)
 }
 
 // Opens a book: 0 and its record, or the refusal with nothing changed.
-#[unsafe(no_mangle)]
-pub extern "C" fn hods_open(file: &[u8], record: &mut Numbers) -> u64
+pub fn hods_open(file: &[u8], record: &mut Numbers) -> u64
     ensures answer { result ≡ open_code (opened file.now) }
     ensures numbers { «record».new ≡ open_record (opened file.now) «record».old }
 {
@@ -39,8 +37,7 @@ pub extern "C" fn hods_open(file: &[u8], record: &mut Numbers) -> u64
 
 // Looks a name up: 0 found (count of chunks, name's place, name's length, section, offset, length, count of comparisons), 255 absent (the two counts
 // alone), or the refusal with nothing changed. The trail gets the chunks of the descent.
-#[unsafe(no_mangle)]
-pub extern "C" fn hods_lookup(
+pub fn hods_lookup(
     file: &[u8],
     record: &Numbers,
     name: &[u8],
@@ -57,13 +54,7 @@ pub extern "C" fn hods_lookup(
 
 // Looks a name up along the chain alone: 0 found (name's place, name's length, section, offset, length); 255 absent, or the refusal, with nothing changed.
 // On a book that opens, with its record, the number is that of lookup.
-#[unsafe(no_mangle)]
-pub extern "C" fn hods_scan(
-    file: &[u8],
-    record: &Numbers,
-    name: &[u8],
-    answer: &mut [u64; 5],
-) -> u64
+pub fn hods_scan(file: &[u8], record: &Numbers, name: &[u8], answer: &mut [u64; 5]) -> u64
     ensures answer { result ≡ reply_code (scanned file.now (record_in «record».now) name.now) }
     ensures numbers { answer.new ≡ reply_numbers (scanned file.now (record_in «record».now) name.now) answer.old }
     ensures agrees { opened file.now ≡ Book (record_in «record».now) → (places : ℕ) → 5 ≤ places → result ≡ lookup_code (looked_up file.now (record_in «record».now) name.now places) }
@@ -74,13 +65,7 @@ pub extern "C" fn hods_scan(
 
 // Looks a name up in a book that was opened, with no chunk checked again: 0 found (name's place, name's length, section, offset, length); 255 absent, or the
 // refusal, with nothing changed. On a book that opens, with its record, the number is that of lookup; on other bytes a name may be missed.
-#[unsafe(no_mangle)]
-pub extern "C" fn hods_lookup_opened(
-    file: &[u8],
-    record: &Numbers,
-    name: &[u8],
-    answer: &mut [u64; 5],
-) -> u64
+pub fn hods_lookup_opened(file: &[u8], record: &Numbers, name: &[u8], answer: &mut [u64; 5]) -> u64
     ensures answer { result ≡ reply_code (fetched file.now (record_in «record».now) name.now) }
     ensures numbers { answer.new ≡ reply_numbers (fetched file.now (record_in «record».now) name.now) answer.old }
     ensures agrees { opened file.now ≡ Book (record_in «record».now) → (places : ℕ) → 5 ≤ places → result ≡ lookup_code (looked_up file.now (record_in «record».now) name.now places) }
@@ -91,8 +76,7 @@ pub extern "C" fn hods_lookup_opened(
 
 // Opens the book and looks up names that stand one behind another, each an ENCINT of its length and its bytes: 0 with 32 bytes a name at the front of
 // `answers`; or the refusal of opening, or 22, with nothing changed.
-#[unsafe(no_mangle)]
-pub extern "C" fn hods_batch(file: &[u8], names: &[u8], answers: &mut [u8]) -> u64
+pub fn hods_batch(file: &[u8], names: &[u8], answers: &mut [u8]) -> u64
     ensures answer { result ≡ batch_code (batch_of file.now names.now (length answers.old)) }
     ensures answers { answers.new ≡ answers_in file.now names.now answers.old }
 {
@@ -100,8 +84,7 @@ pub extern "C" fn hods_batch(file: &[u8], names: &[u8], answers: &mut [u8]) -> u
 }
 
 // The cursor at the start of a book's listing.
-#[unsafe(no_mangle)]
-pub extern "C" fn hods_start(record: &Numbers, cursor: &mut [u64; 2]) -> u64
+pub fn hods_start(record: &Numbers, cursor: &mut [u64; 2]) -> u64
     ensures answer { result ≡ 0 }
     ensures numbers { cursor.new ≡ cursor_numbers (start_of (record_in «record».now)) }
 {
@@ -110,13 +93,7 @@ pub extern "C" fn hods_start(record: &Numbers, cursor: &mut [u64; 2]) -> u64
 }
 
 // The entry at a cursor: 0 with its five numbers and the cursor moved on, 255 at the end with nothing changed, or the refusal with nothing changed.
-#[unsafe(no_mangle)]
-pub extern "C" fn hods_step(
-    file: &[u8],
-    record: &Numbers,
-    cursor: &mut [u64; 2],
-    entry: &mut [u64; 5],
-) -> u64
+pub fn hods_step(file: &[u8], record: &Numbers, cursor: &mut [u64; 2], entry: &mut [u64; 5]) -> u64
     ensures answer { result ≡ step_code (stepped file.now (record_in «record».now) (cursor_in cursor.old)) }
     ensures cursor { cursor.new ≡ step_cursor (stepped file.now (record_in «record».now) (cursor_in cursor.old)) cursor.old }
     ensures numbers { entry.new ≡ step_numbers (stepped file.now (record_in «record».now) (cursor_in cursor.old)) entry.old }
@@ -128,13 +105,7 @@ pub extern "C" fn hods_step(
 
 // The own bytes of the entry at a cursor, as stored: 0 with their place in the file and how many they are; 255, with nothing changed, where a step gives
 // no entry.
-#[unsafe(no_mangle)]
-pub extern "C" fn hods_own(
-    file: &[u8],
-    record: &Numbers,
-    cursor: &[u64; 2],
-    part: &mut [u64; 2],
-) -> u64
+pub fn hods_own(file: &[u8], record: &Numbers, cursor: &[u64; 2], part: &mut [u64; 2]) -> u64
     ensures answer { result ≡ own_code (owned_at file.now (record_in «record».now) (cursor_in cursor.now)) }
     ensures numbers { part.new ≡ own_numbers (owned_at file.now (record_in «record».now) (cursor_in cursor.now)) part.old }
     ensures step { (result ≡ 0) ↔ (step_code (stepped file.now (record_in «record».now) (cursor_in cursor.now)) ≡ 0) }
@@ -145,8 +116,7 @@ pub extern "C" fn hods_own(
 }
 
 // The entries of one listing chunk, five numbers each: 0 with their count and the next chunk, 255 where there are too few places, or the refusal.
-#[unsafe(no_mangle)]
-pub extern "C" fn hods_chunk_page(
+pub fn hods_chunk_page(
     file: &[u8],
     record: &Numbers,
     chunk: u64,
@@ -162,8 +132,7 @@ pub extern "C" fn hods_chunk_page(
 }
 
 // The start of a comparison.
-#[unsafe(no_mangle)]
-pub extern "C" fn hods_compare_start(one: &Numbers, two: &Numbers, cursor: &mut [u64; 14]) -> u64
+pub fn hods_compare_start(one: &Numbers, two: &Numbers, cursor: &mut [u64; 14]) -> u64
     ensures answer { result ≡ 0 }
     ensures cursor { cursor.new ≡ walks_numbers (compare_start (record_in one.now) (record_in two.now)) }
 {
@@ -173,8 +142,7 @@ pub extern "C" fn hods_compare_start(one: &Numbers, two: &Numbers, cursor: &mut 
 }
 
 // The next difference of a comparison: 0 with its numbers and the cursor moved on, 255 at the end with the totals, or the refusal beside its book.
-#[unsafe(no_mangle)]
-pub extern "C" fn hods_compare_step(
+pub fn hods_compare_step(
     file1: &[u8],
     one: &Numbers,
     file2: &[u8],
@@ -200,16 +168,14 @@ pub extern "C" fn hods_compare_step(
 }
 
 // How many bytes a part of the file has: 0 where it is not inside.
-#[unsafe(no_mangle)]
-pub extern "C" fn hods_part(file: &[u8], place: u64, length: u64) -> u64
+pub fn hods_part(file: &[u8], place: u64, length: u64) -> u64
     ensures { result ≡ part_length file.now place «length» }
 {
     content::part(file, place, length).len() as u64
 }
 
 // Writes the head of a book with these entries and content of that length: 0 and the head's length, or the refusal with nothing changed.
-#[unsafe(no_mangle)]
-pub extern "C" fn hods_write_head(
+pub fn hods_write_head(
     entries: &[u8],
     density: u32,
     time: u32,

@@ -24,15 +24,23 @@ module _ (s : List ℕ) (book : Record) (name was : List ℕ) where
   -- the five clauses
   abbrev pub Promised : Answer → List ℕ → Type 0
   Promised r is =
-      (r ≡ looked_up s book name (length was))
-      × ((is ≡ trail_after s book name was)
-      × ((opened s ≡ Book book → 1 ≤ length name → length name ≤ 1024 → 5 ≤ length was → Complete s book name was r is)
-      × (Counted s book name r × OnlyBlocks s book name was r is)))
+      record {
+        answer : r ≡ looked_up s book name (length was);
+        places : is ≡ trail_after s book name was;
+        complete : opened s ≡ Book book → 1 ≤ length name → length name ≤ 1024 → 5 ≤ length was → Complete s book name was r is;
+        counted : Counted s book name r;
+        blocks : OnlyBlocks s book name was r is;
+      }
 
   -- the last three follow from the first two
   promised : (r : Answer) (is : List ℕ) → r ≡ looked_up s book name (length was) → is ≡ trail_after s book name was → Promised r is
-  promised r is p q =
-      (p, (q, ((λ o a b c. rw (p, q) (complete s book name was o a b c)), (rw p (counted s book name (length was)), rw (p, q) (only_blocks s book name was)))))
+  promised r is p q = record {
+    answer = p;
+    places = q;
+    complete = λ o a b c. rw (p, q) (complete s book name was o a b c);
+    counted = rw p (counted s book name (length was));
+    blocks = rw (p, q) (only_blocks s book name was);
+  }
 
   -- ---- a refusal
 

@@ -44,6 +44,7 @@ module _ (D : ℕ → Parsed) (H : Shape) (good : GoodChunks D H) (name : List �
   choice_is : (l : ℕ) (es : List Entry) → all_of (child_ok D H l) es ≡ true → Each Before (under_all D l es)
       → (x : Entry) → In x es → (e : Entry) → In e (under D l x.child) → matches name e.name ≡ true → (last : Sought) → choice name last es ≡ Sought.found x
   unfolding choice flat_map
+  choice_is l [] a r x i e m k last = elim i [ ]
   choice_is l (z ∷ es) a r x (inl q) e m k last =
       let t = all_more (child_ok D H l) z es a in
       let c = child_is D H l z t.0 in

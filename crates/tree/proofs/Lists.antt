@@ -45,10 +45,12 @@ module _ {A : Type 0} where
   all_more p x xs h = and_both _ _ h
 
   pub all_in : (p : A → Bool) (xs : List A) → all_of p xs ≡ true → (x : A) → In x xs → p x ≡ true
+  all_in p [] h x m = elim m [ ]
   all_in p (y ∷ ys) h x (inl e) = rw e (all_more p y ys h).0
   all_in p (y ∷ ys) h x (inr m) = all_in p ys (all_more p y ys h).1 x m
 
   pub in_left : (xs ys : List A) (x : A) → In x xs → In x (xs ++ ys)
+  in_left [] ys x m = elim m [ ]
   in_left (z ∷ zs) ys x (inl e) = inl e
   in_left (z ∷ zs) ys x (inr m) = inr (in_left zs ys x m)
 
@@ -74,16 +76,19 @@ member_in n (x ∷ xs) h = on_test (eqb n x) (λ e. inl (eqb-true n x e)) (λ e.
 
 module _ {A B : Type 0} where
   pub in_map : (f : A → B) (xs : List A) (x : A) → In x xs → In (f x) (map f xs)
+  in_map f [] x m = elim m [ ]
   in_map f (y ∷ xs) x (inl q) = inl (ap f q)
   in_map f (y ∷ xs) x (inr m) = inr (in_map f xs x m)
 
   pub in_flat : (f : A → List B) (xs : List A) (x : A) (y : B) → In x xs → In y (f x) → In y (flat_map f xs)
   unfolding flat_map
+  in_flat f [] x y k m = elim k [ ]
   in_flat f (z ∷ zs) x y (inl e) m = in_left (f z) (flat_map f zs) y (rw e at m)
   in_flat f (z ∷ zs) x y (inr k) m = in_right (f z) (flat_map f zs) y (in_flat f zs x y k m)
 
   pub flat_in : (f : A → List B) (xs : List A) (y : B) → In y (flat_map f xs) → (x : A) × In x xs × In y (f x)
   unfolding flat_map
+  flat_in f [] y m = elim m [ ]
   flat_in f (z ∷ zs) y m =
       ⊎_elim (λ k. (z, inl refl, k)) (λ k. let r = flat_in f zs y k in (r.0, inr r.1, r.2)) (in_append (f z) (flat_map f zs) y m)
 
@@ -105,6 +110,7 @@ module _ {A : Type 0} (R : A → A → Type 0) where
 
   -- one of the first list, one of the second
   pub each_apart : (xs ys : List A) → Each R (xs ++ ys) → (x y : A) → In x xs → In y ys → R x y
+  each_apart [] ys r x y k m = elim k [ ]
   each_apart (z ∷ zs) ys r x y (inl e) m = rw e (r.0 y (in_right zs ys y m))
   each_apart (z ∷ zs) ys r x y (inr k) m = each_apart zs ys r.1 x y k m
 
@@ -116,5 +122,6 @@ module _ {A : Type 0} (R : A → A → Type 0) where
   -- one of several lists
   pub each_of : {B : Type 0} (f : B → List A) (xs : List B) → Each R (flat_map f xs) → (x : B) → In x xs → Each R (f x)
   unfolding flat_map
+  each_of {B = B} f [] r x m = elim m [ ]
   each_of f (z ∷ zs) r x (inl e) = rw e (each_left (f z) (flat_map f zs) r)
   each_of f (z ∷ zs) r x (inr m) = each_of f zs (each_right (f z) (flat_map f zs) r) x m

@@ -36,6 +36,7 @@ module _ (D : ℕ → Parsed) (H : Shape) where
 -- ---- entries with their chunks
 
 held_in_lem : (c : ℕ) (es : List Entry) (h : Held) → In h (map (held_at c) es) → (h.chunk ≡ c) × In h.entry es
+held_in_lem c [] h m = elim m [ ]
 held_in_lem c (d ∷ es) h (inl q) = (ap (λ (x : Held). x.chunk) q, inl (ap (λ (x : Held). x.entry) q))
 held_in_lem c (d ∷ es) h (inr m) = let r = held_in_lem c es h m in (r.0, inr r.1)
 
@@ -99,6 +100,7 @@ equal_found name (h ∷ hs) w =
 pub equal_some : (name : List ℕ) (hs : List Held) (w : Bool) (h : Held) → In h hs → matches name h.entry.name ≡ true
     → (k : Held) × (first_equal name hs w ≡ found k.chunk k.entry)
 unfolding first_equal
+equal_some name [] w h m e = elim m [ ]
 equal_some name (d ∷ hs) w h (inl q) e = (d, rw (← q, e) refl)
 equal_some name (d ∷ hs) w h (inr m) e =
     on_test (matches name d.entry.name)

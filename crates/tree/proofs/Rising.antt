@@ -20,6 +20,7 @@ Before d e = below d.name e.name ≡ true
 
 -- `last` comes before every name
 rising_all : (last : List ℕ) (es : List Entry) → rising entry_name last es ≡ true → (e : Entry) → In e es → below last e.name ≡ true
+rising_all last [] h e m = elim m [ ]
 rising_all last (d ∷ es) h e (inl q) = rw q (rising_more entry_name last d es h).0
 rising_all last (d ∷ es) h e (inr m) =
     let t = rising_more entry_name last d es h in
@@ -53,6 +54,7 @@ rising_append last e (d ∷ es) ds h k =
 module _ (name : List ℕ) where
   pub lookup_only : (es : List Entry) → Each Before es → (e : Entry) → In e es → matches name e.name ≡ true → entry_named name es ≡ found e
   unfolding entry_named
+  lookup_only [] r e m k = elim m [ ]
   lookup_only (d ∷ es) r e (inl q) k = rw (← q, k)
   lookup_only (d ∷ es) r e (inr m) k = rw (before_equal name e.name k d.name (r.0 e m)) (lookup_only es r.1 e m k)
 

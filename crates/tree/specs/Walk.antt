@@ -1,5 +1,5 @@
 -- Chain and tree as code with no heap checks them: by counting down, and by a walk over the leaves along the chain.
--- The laws `Chain-run` and `tree_walk` of proofs/ say that these accept exactly what `chain_ok` and `tree_ok` accept. And the plain search as a loop takes it,
+-- The laws `chain_run_lem` and `tree_walk` of proofs/ say that these accept exactly what `chain_ok` and `tree_ok` accept. And the plain search as a loop takes it,
 -- chunk by chunk: `plain_whole`.
 use Rattle.std.specs.Prelude.{Bool, false, cond, ◌&&◌, List, [], ◌∷◌, ℕ, zero, suc, eqb}
 use Rattle.fields.specs.Same.{same}

@@ -131,7 +131,9 @@ fn programs(options: &Options) -> Result<Programs, String> {
         true => Ok(path.to_owned()),
         false => {
             let path = path.display();
-            Err(format!("no program {path}: `rt check {name}` makes it"))
+            Err(format!(
+                "no program {path}: `python3 tests/archive.py {name}` makes it"
+            ))
         }
     };
     let list = there(&options.list, "list")?;

@@ -14,7 +14,7 @@
 //! - [`Book::stored`] lends the bytes that an entry of section 0 leads to, [`Entry::stored_bytes`] the entry's own, [`Book::part`] any part of the file.
 //! - [`write_head`] makes the head of a new book from entries, which rise by [`name_order`].
 //!
-//! `cargo build` links `target/staticlib/libhodsplinter.a`, which `rt staticlib hodsplinter` makes; the environment variable `HODSPLINTER_LIB` can
+//! `cargo build` links `target/staticlib/libhodsplinter.a`, which `make library` makes; the environment variable `HODSPLINTER_LIB` can
 //! name another copy.
 
 #![deny(unsafe_code)]

@@ -1,4 +1,4 @@
-use Rattle.fields.proofs.Base.{le-leb, lt-leb, sym, ◌∙◌, arith, ◌+◌, length, now}
+use Rattle.fields.proofs.Base.{le-leb, lt-leb, sym, ◌∙◌, arith, ◌+◌, length}
 use Rattle.encint.proofs.Reading.{encint_next}
 use Rattle.batch.specs.Batch.{asked_at}
 use Rattle.batch.proofs.asked_at.Goals as goal

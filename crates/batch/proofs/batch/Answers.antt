@@ -1,4 +1,4 @@
-use Rattle.fields.proofs.Base.{sym, ◌∙◌, now}
+use Rattle.fields.proofs.Base.{sym, ◌∙◌}
 use Rattle.batch.proofs.Called.{opened_batch, refused_batch}
 use Rattle.batch.proofs.batch.Goals as goal
 

@@ -1,4 +1,4 @@
-use Rattle.fields.proofs.Base.{◌≡◌, sym, ap, ◌∙◌, now}
+use Rattle.fields.proofs.Base.{◌≡◌, sym, ap, ◌∙◌}
 use Rattle.batch.specs.Batch.{names_in}
 use Rattle.batch.specs.Step.{counted_as}
 use Rattle.batch.specs.declared.Batched.TheVariants.{Refused}
@@ -31,4 +31,4 @@ returns c =
     let count_is : All c.in-All.n ≡ counted_as 0 (names_in c.args.names.now) =
     sym c.in-All.is ∙ c.count_names.ensures in
     let a = c.args in
-    in_done a.file.now a.book a.names.now a.answers.now _ (count_is) c.put_results.new.1.1.1.0 c.if-answers-n.false c.put_results.ensures
+    in_done a.file.now a.book a.names.now a.answers.now _ (count_is) c.put_results.new.answers c.if-answers-n.false c.put_results.ensures

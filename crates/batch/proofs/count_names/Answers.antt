@@ -1,4 +1,4 @@
-use Rattle.fields.proofs.Base.{◌≡◌, sym, ◌∙◌, arith, now}
+use Rattle.fields.proofs.Base.{◌≡◌, sym, ◌∙◌, arith}
 use Rattle.encint.specs.declared.Number.TheVariants.{Value}
 use Rattle.batch.specs.Batch.{asked_at}
 use Rattle.batch.proofs.Asked.{asked_inside, counting_start, counting_end, counting_cut, counting_more}

@@ -1,4 +1,3 @@
-use Rattle.fields.proofs.Base.{now}
 use Rattle.batch.proofs.Results.{four_puts}
 use Rattle.batch.proofs.put_four.Goals as goal
 

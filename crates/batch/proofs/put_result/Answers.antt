@@ -1,4 +1,4 @@
-use Rattle.fields.proofs.Base.{sym, ap, ◌∙◌, sets, now}
+use Rattle.fields.proofs.Base.{sym, ap, ◌∙◌, sets}
 use Rattle.batch.specs.Batch.{result_of}
 use Rattle.batch.proofs.put_result.Goals as goal
 

@@ -1,4 +1,4 @@
-use Rattle.fields.proofs.Base.{◌≡◌, sym, ap, ◌∙◌, ◌+◌, ◌≤◌, ◌<◌, add-sub_cancel_left, arith, length, sets, now}
+use Rattle.fields.proofs.Base.{◌≡◌, sym, ap, ◌∙◌, ◌+◌, ◌≤◌, ◌<◌, add-sub_cancel_left, arith, length, sets}
 use Rattle.encint.specs.declared.Number.TheVariants.{Value}
 use Rattle.batch.specs.Batch.{asked_at, result_of}
 use Rattle.batch.proofs.Asked.{asked_inside}

@@ -9,4 +9,4 @@ returns-then-book-c c = let a = c.args in rw (le-ltb a.c a.book.count (omega ari
 pub returns : goal.returns
 unfolding checked_chunk directory_of
 returns c = let a = c.args in
-    rw (lt-ltb a.c a.book.count (omega arith), ← c.limits.ensures, ← c.??.chunk_bytes_lem.ensures) c.check.ensures
+    rw (lt-ltb a.c a.book.count (omega arith), ← c.limits.ensures, ← c.chunk_bytes.ensures) c.check.ensures

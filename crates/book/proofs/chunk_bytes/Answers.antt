@@ -1,4 +1,4 @@
-use Rattle.fields.proofs.Base.{sym, add-sub_cancel_left, arith, now}
+use Rattle.fields.proofs.Base.{sym, add-sub_cancel_left, arith}
 use Rattle.fields.proofs.Parts.{part_inside, part_outside}
 use Rattle.book.specs.Book.{chunk_bytes, chunk_place}
 use Rattle.book.proofs.chunk_bytes.Goals as goal

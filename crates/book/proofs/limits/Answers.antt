@@ -1,4 +1,4 @@
-use Rattle.fields.proofs.Base.{◌≡◌, refl, ◌-◌, arith, length, now}
+use Rattle.fields.proofs.Base.{◌≡◌, refl, ◌-◌, arith, length}
 use Rattle.book.specs.Book.{limits_of}
 use Rattle.book.proofs.limits.Goals as goal
 

@@ -1,5 +1,4 @@
-use Rattle.fields.proofs.Base.{rules, eq-eqb, ne_eqb, not-true, ◌≡◌, sym, ◌∙◌, cond, [], arith, ◌+◌, ◌-◌, ◌*◌, ◌≤◌, eqb}
-use borrow.Author.Tests.{not-false}
+use Rattle.fields.proofs.Base.{rules, eq-eqb, ne_eqb, ◌≡◌, sym, ◌∙◌, cond, [], arith, ◌+◌, ◌-◌, ◌*◌, ◌≤◌, eqb}
 use Rattle.fields.specs.Part.{part}
 use Rattle.entries.specs.Entry.{item_at}
 use Rattle.entries.specs.declared.Item.TheVariants.{Good}

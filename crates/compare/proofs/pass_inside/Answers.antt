@@ -1,4 +1,4 @@
-use Rattle.fields.proofs.Base.{◌≡◌, ap, subst, arith, now}
+use Rattle.fields.proofs.Base.{◌≡◌, ap, subst, arith}
 use Rattle.entries.specs.declared.Place.{Place}
 use Rattle.book.specs.Book.{limits_of, chunk_bytes}
 use Rattle.walk.specs.Walk.{after_of}
@@ -15,7 +15,7 @@ unfolding after_of
 after_chunk w v e q = ap (λ (u : Walk). u.chunk) q
 
 pub loop-first-init : goal.loop-first-init
-loop-first-init c = (c.??.chunk_bytes_lem.ensures, c.chunk_bytes-c2.ensures, passed_none _ _ _ _ _)
+loop-first-init c = (c.chunk_bytes-c1.ensures, c.chunk_bytes-c2.ensures, passed_none _ _ _ _ _)
 
 pub loop-first-smaller : goal.loop-first-smaller
 loop-first-smaller c =
@@ -23,13 +23,13 @@ loop-first-smaller c =
     (limits_of c.args.file2.now c.args.two).content (chunk_bytes c.args.file2.now c.args.two c.loop-first.second.chunk) c.loop-first.second.at
     c.in-Both.x c.in-Both.y =
     rw (← c.loop-first.invariant.0, ← c.loop-first.invariant.1, ← c.limits-limits1.ensures, ← c.limits-limits2.ensures)
-    (subst (SameTold c.limits-limits1.result.content c.??.chunk_bytes_lem.result.now c.loop-first.first.at
+    (subst (SameTold c.limits-limits1.result.content c.chunk_bytes-c1.result.now c.loop-first.first.at
     c.limits-limits2.result.content c.chunk_bytes-c2.result.now c.loop-first.second.at) c.in-Both.is c.same_entries.ensures) in
     let turn_is : let a = c.args in
     turned a.file1.now a.one a.file2.now a.two (both_at c.loop-first.first c.loop-first.second c.loop-first.totals)
     ≡ On (both_at c.after-first.result c.after-second.result c.one_same-totals.result) =
     rw (c.one_same-totals.ensures, c.after-first.ensures, c.after-second.ensures)
-    (same_passed c.args.file1.now c.args.one c.args.file2.now c.args.two c.requires.0 c.requires.1
+    (same_passed c.args.file1.now c.args.one c.args.file2.now c.args.two c.requires.one_value c.requires.two_value
     c.loop-first.first c.loop-first.second c.loop-first.totals _ _ (omega (arith, c.loop-first-test.true)) (omega (arith, c.if-second-lt1.false)) (same_is)) in
     let a = c.args in
     turn_falls a.file1.now a.one a.file2.now a.two (both_at c.loop-first.first c.loop-first.second c.loop-first.totals) _ (turn_is)
@@ -40,13 +40,13 @@ loop-first-preserved c =
     (limits_of c.args.file2.now c.args.two).content (chunk_bytes c.args.file2.now c.args.two c.loop-first.second.chunk) c.loop-first.second.at
     c.in-Both.x c.in-Both.y =
     rw (← c.loop-first.invariant.0, ← c.loop-first.invariant.1, ← c.limits-limits1.ensures, ← c.limits-limits2.ensures)
-    (subst (SameTold c.limits-limits1.result.content c.??.chunk_bytes_lem.result.now c.loop-first.first.at
+    (subst (SameTold c.limits-limits1.result.content c.chunk_bytes-c1.result.now c.loop-first.first.at
     c.limits-limits2.result.content c.chunk_bytes-c2.result.now c.loop-first.second.at) c.in-Both.is c.same_entries.ensures) in
     let turn_is : let a = c.args in
     turned a.file1.now a.one a.file2.now a.two (both_at c.loop-first.first c.loop-first.second c.loop-first.totals)
     ≡ On (both_at c.after-first.result c.after-second.result c.one_same-totals.result) =
     rw (c.one_same-totals.ensures, c.after-first.ensures, c.after-second.ensures)
-    (same_passed c.args.file1.now c.args.one c.args.file2.now c.args.two c.requires.0 c.requires.1
+    (same_passed c.args.file1.now c.args.one c.args.file2.now c.args.two c.requires.one_value c.requires.two_value
     c.loop-first.first c.loop-first.second c.loop-first.totals _ _ (omega (arith, c.loop-first-test.true)) (omega (arith, c.if-second-lt1.false)) (same_is)) in
     let a = c.args in (
       rw (after_chunk c.loop-first.first _ _ c.after-first.ensures) c.loop-first.invariant.0,

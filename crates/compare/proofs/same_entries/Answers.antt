@@ -1,6 +1,5 @@
-use Rattle.fields.proofs.Base.{◌≡◌, sym, ◌∙◌, now}
+use Rattle.fields.proofs.Base.{◌≡◌, sym, ◌∙◌}
 use Rattle.fields.specs.Part.{part_of}
-use Rattle.fields.proofs.Tests.{held}
 use Rattle.names.specs.Names.{compared}
 use Rattle.compare.proofs.same_entries.Goals as goal
 
@@ -21,7 +20,7 @@ returns-in-Equal c =
     record {
       first = sym c.listing_at.ensures ∙ c.in-Good.is;
       second = sym c.listing_at-2.ensures ∙ c.in-Good-listing_at.is;
-      numbers = held c.same_at.ensures c.if-not-same_at.false;
+      numbers = sym c.same_at.ensures ∙ c.if-not-same_at.false;
       names = sym (order_is) ∙ c.in-Equal.is;
     }
 

@@ -1,4 +1,4 @@
-use Rattle.fields.proofs.Base.{◌≡◌, refl, sym, ap, subst, ◌∙◌, ◌≢◌, List, ℕ, arith, now}
+use Rattle.fields.proofs.Base.{◌≡◌, refl, sym, ap, subst, ◌∙◌, ◌≢◌, List, ℕ, arith}
 use Rattle.refusals.specs.declared.Refusal.{Refusal}
 use Rattle.header.specs.declared.Record.{Record}
 use Rattle.opening.specs.Opened.{opened}

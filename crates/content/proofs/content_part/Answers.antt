@@ -1,4 +1,4 @@
-use Rattle.fields.proofs.Base.{sym, ◌∙◌, arith, now}
+use Rattle.fields.proofs.Base.{sym, ◌∙◌, arith}
 use Rattle.content.proofs.Contents.{content_zero, content_other, content_outside}
 use Rattle.content.proofs.content_part.Goals as goal
 

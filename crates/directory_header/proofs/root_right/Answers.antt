@@ -9,14 +9,14 @@ returns-then-f-ne1 c = rw (eq-eqb _ _ c.if-f-eq1.true, ne_eqb _ _ c.if-f-ne1.tru
 
 pub returns-then-f-no_chunk : goal.returns-then-f-no_chunk
 unfolding root_right
-returns-then-f-no_chunk c = rw (eq-eqb _ _ c.if-f-eq1.true, eq-eqb _ _ c.if-f-ne1.false, eq-eqb _ no_chunk (c.if-f-no_chunk.true ∙ c.??.no_Chunk.ensures))
+returns-then-f-no_chunk c = rw (eq-eqb _ _ c.if-f-eq1.true, eq-eqb _ _ c.if-f-ne1.false, eq-eqb _ no_chunk (c.if-f-no_chunk.true ∙ c.no_chunk.ensures))
 
 pub returns-then-f-eq1 : goal.returns-then-f-eq1
 unfolding root_right
 returns-then-f-eq1 c = rw (
   eq-eqb _ _ c.if-f-eq1.true,
   eq-eqb _ _ c.if-f-ne1.false,
-  ne_eqb _ no_chunk (λ q. c.if-f-no_chunk.false (q ∙ sym c.??.no_Chunk.ensures)),
+  ne_eqb _ no_chunk (λ q. c.if-f-no_chunk.false (q ∙ sym c.no_chunk.ensures)),
 )
 
 pub returns-then-f-eq1-2 : goal.returns-then-f-eq1-2

@@ -19,5 +19,5 @@ pub returns : goal.returns
 returns c = let n = c.size-n in
     let a = c.args in
     let w = wrote_inside a.out.now a.at (encoded a.v) _ (omega arith)
-        (c.write_leading.ensures ∙ stored a.out.now a.at a.v n.result n.ensures (omega arith) (omega arith)) in
+    (c.write_leading.ensures ∙ stored a.out.now a.at a.v n.result n.ensures (omega arith) (omega arith)) in
     record { count = n.ensures ∙ w.0; bytes = w.1 }

@@ -1,5 +1,4 @@
-use Rattle.fields.proofs.Base.{sym, ap, ◌∙◌, now}
-use Rattle.fields.proofs.Tests.{held, failed}
+use Rattle.fields.proofs.Base.{sym, ap, ◌∙◌}
 use Rattle.book.proofs.Laws.{fits_told}
 use Rattle.lookup.specs.declared.Reply.TheVariants.{Refused}
 use Rattle.lookup.proofs.Replies.{replied_name, replied_record, replied_search}
@@ -11,18 +10,18 @@ pub returns-then-not-is_askable : goal.returns-then-not-is_askable
 unfolding fetched
 returns-then-not-is_askable c = let a = c.args in
     promised a.file.now a.book a.name.now _
-    (ap (λ x. Refused x) c.refuse.ensures ∙ sym (replied_name a.file.now a.book a.name.now _ (failed c.is_askable.ensures c.if-not-is_askable.true)))
+    (ap (λ x. Refused x) c.refuse.ensures ∙ sym (replied_name a.file.now a.book a.name.now _ (sym c.is_askable.ensures ∙ c.if-not-is_askable.true)))
 
 pub returns-then-not-record_fits : goal.returns-then-not-record_fits
 unfolding fetched
 returns-then-not-record_fits c = let a = c.args in
     promised a.file.now a.book a.name.now _
     (ap (λ x. Refused x) c.refuse-then-not-record_fits.ensures
-    ∙ sym (replied_record a.file.now a.book a.name.now _ (held c.is_askable.ensures c.if-not-is_askable.false) (failed c.record_fits.ensures c.if-not-record_fits.true)))
+    ∙ sym (replied_record a.file.now a.book a.name.now _ (sym c.is_askable.ensures ∙ c.if-not-is_askable.false) (sym c.record_fits.ensures ∙ c.if-not-record_fits.true)))
 
 pub fetch_from-requires : goal.fetch_from-requires
 fetch_from-requires c = let a = c.args in
-    let h = fits_told a.file.now a.book (held c.record_fits.ensures c.if-not-record_fits.false) in
+    let h = fits_told a.file.now a.book (sym c.record_fits.ensures ∙ c.if-not-record_fits.false) in
     h.some_levels
 
 pub returns : goal.returns
@@ -30,4 +29,4 @@ unfolding fetched
 returns c = let a = c.args in
     promised a.file.now a.book a.name.now _
     (rw (← c.top_chunk.ensures) c.fetch_from.ensures
-    ∙ sym (replied_search a.file.now a.book a.name.now _ (held c.is_askable.ensures c.if-not-is_askable.false) (held c.record_fits.ensures c.if-not-record_fits.false)))
+    ∙ sym (replied_search a.file.now a.book a.name.now _ (sym c.is_askable.ensures ∙ c.if-not-is_askable.false) (sym c.record_fits.ensures ∙ c.if-not-record_fits.false)))

@@ -1,4 +1,4 @@
-use Rattle.fields.proofs.Base.{◌≡◌, refl, sym, ap, ◌∙◌, ℕ, arith, now}
+use Rattle.fields.proofs.Base.{◌≡◌, refl, sym, ap, ◌∙◌, ℕ, arith}
 use Rattle.seek.specs.declared.CountedChild.{CountedChild}
 use Rattle.lookup.specs.Reply.{reply_to}
 use Rattle.fetch.specs.Fetch.{fetch_at}

@@ -1,4 +1,4 @@
-use Rattle.fields.proofs.Base.{sym, ◌∙◌, now}
+use Rattle.fields.proofs.Base.{sym, ◌∙◌}
 use Rattle.fetch.proofs.Steps.{leaf_found, leaf_absent}
 use Rattle.fetch.proofs.fetch_leaf.Goals as goal
 

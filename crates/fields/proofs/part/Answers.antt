@@ -1,4 +1,4 @@
-use Rattle.fields.proofs.Base.{◌≡◌, sym, ap, ◌∙◌, ⊎_elim, ℕ, ◌+◌, ◌-◌, arith, take, drop}
+use Rattle.fields.proofs.Base.{◌≡◌, sym, ap, ◌∙◌, ℕ, ◌+◌, ◌-◌, arith, take, drop}
 use Rattle.fields.proofs.Parts.{part_inside, part_outside}
 use Rattle.fields.proofs.part.Goals.{then-at-s+else-n-s, else-at-s}
 use Rattle.fields.proofs.part.Goals as goal

@@ -1,5 +1,4 @@
-use Rattle.fields.proofs.Base.{le-leb, lt-leb, ◌≡◌, sym, ap, ◌∙◌, true, arith, now}
-use Rattle.fields.proofs.Tests.{held, failed}
+use Rattle.fields.proofs.Base.{le-leb, lt-leb, ◌≡◌, sym, ap, ◌∙◌, true, arith}
 use Rattle.file_header.specs.FileHeader.{long_enough, file_tagged, version_right, sections_right, file_header_of}
 use Rattle.file_header.specs.declared.CheckedFileHeader.TheVariants.{Good}
 use Rattle.file_header.proofs.Rules.{sections_told}
@@ -15,7 +14,7 @@ unfolding file_header_of
 returns-then-not-file_tagged c =
     let long : long_enough c.args.len ≡ true =
     le-leb 96 c.args.len (omega arith) in
-    rw (long, failed c.file_tagged.ensures c.if-not-file_tagged.true)
+    rw (long, sym c.file_tagged.ensures ∙ c.if-not-file_tagged.true)
 
 pub returns-then-not-version_right : goal.returns-then-not-version_right
 unfolding file_header_of
@@ -23,8 +22,8 @@ returns-then-not-version_right c =
     let long : long_enough c.args.len ≡ true =
     le-leb 96 c.args.len (omega arith) in
     let tagged : file_tagged c.args.h.now ≡ true =
-    held c.file_tagged.ensures c.if-not-file_tagged.false in
-    rw (long, tagged, failed c.version_right.ensures c.if-not-version_right.true)
+    sym c.file_tagged.ensures ∙ c.if-not-file_tagged.false in
+    rw (long, tagged, sym c.version_right.ensures ∙ c.if-not-version_right.true)
 
 pub returns-then-not-sections_right : goal.returns-then-not-sections_right
 unfolding file_header_of
@@ -32,15 +31,15 @@ returns-then-not-sections_right c =
     let long : long_enough c.args.len ≡ true =
     le-leb 96 c.args.len (omega arith) in
     let tagged : file_tagged c.args.h.now ≡ true =
-    held c.file_tagged.ensures c.if-not-file_tagged.false in
+    sym c.file_tagged.ensures ∙ c.if-not-file_tagged.false in
     let version : version_right c.args.h.now ≡ true =
-    held c.version_right.ensures c.if-not-version_right.false in
-    rw (long, tagged, version, failed c.sections_right.ensures c.if-not-sections_right.true)
+    sym c.version_right.ensures ∙ c.if-not-version_right.false in
+    rw (long, tagged, version, sym c.sections_right.ensures ∙ c.if-not-sections_right.true)
 
 pub fields_of-requires : goal.fields_of-requires
 fields_of-requires c =
     let sections : let a = c.args in sections_right a.h.now a.len ≡ true =
-    held c.sections_right.ensures c.if-not-sections_right.false in
+    sym c.sections_right.ensures ∙ c.if-not-sections_right.false in
     let a = c.args in
     omega (arith, (sections_told a.h.now a.len (sections)).directory)
 
@@ -49,10 +48,10 @@ returns c =
     let long : long_enough c.args.len ≡ true =
     le-leb 96 c.args.len (omega arith) in
     let tagged : file_tagged c.args.h.now ≡ true =
-    held c.file_tagged.ensures c.if-not-file_tagged.false in
+    sym c.file_tagged.ensures ∙ c.if-not-file_tagged.false in
     let version : version_right c.args.h.now ≡ true =
-    held c.version_right.ensures c.if-not-version_right.false in
+    sym c.version_right.ensures ∙ c.if-not-version_right.false in
     let sections : let a = c.args in sections_right a.h.now a.len ≡ true =
-    held c.sections_right.ensures c.if-not-sections_right.false in
+    sym c.sections_right.ensures ∙ c.if-not-sections_right.false in
     ap Good c.fields_of.ensures
     ∙ sym (file_good _ _ (record { long = long; tagged = tagged; version = version; sections = sections }))

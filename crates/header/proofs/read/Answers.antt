@@ -1,4 +1,4 @@
-use Rattle.fields.proofs.Base.{◌≡◌, sym, ap, ◌∙◌, List, ℕ, length, now}
+use Rattle.fields.proofs.Base.{◌≡◌, sym, ap, ◌∙◌, List, ℕ, length}
 use Rattle.file_header.specs.FileHeader.{file_header_of}
 use Rattle.file_header.specs.declared.CheckedFileHeader.{CheckedFileHeader}
 use Rattle.header.specs.Header.{after_file, header_of}

@@ -1,4 +1,4 @@
-use Rattle.fields.proofs.Base.{◌≡◌, sym, ap, ◌∙◌, List, ℕ, now}
+use Rattle.fields.proofs.Base.{◌≡◌, sym, ap, ◌∙◌, List, ℕ}
 use Rattle.directory_header.specs.DirectoryHeader.{directory_header_of}
 use Rattle.directory_header.specs.declared.CheckedDirectoryHeader.{CheckedDirectoryHeader}
 use Rattle.header.specs.Header.{after_directory, directory_then}

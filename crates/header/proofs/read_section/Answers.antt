@@ -1,4 +1,4 @@
-use Rattle.fields.proofs.Base.{◌≡◌, sym, ap, ◌∙◌, List, ℕ, length, now}
+use Rattle.fields.proofs.Base.{◌≡◌, sym, ap, ◌∙◌, List, ℕ, length}
 use Rattle.file_header.specs.FileHeader.{section_zero_of}
 use Rattle.file_header.specs.declared.CheckedSectionZero.{CheckedSectionZero}
 use Rattle.header.specs.Header.{after_section, section_then}

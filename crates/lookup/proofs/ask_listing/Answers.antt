@@ -1,4 +1,4 @@
-use Rattle.fields.proofs.Base.{◌≡◌, sym, ap, ◌∙◌, ◌+◌, arith, now}
+use Rattle.fields.proofs.Base.{◌≡◌, sym, ap, ◌∙◌, ◌+◌, arith}
 use Rattle.search.specs.Search.{cost_at}
 use Rattle.search.specs.declared.Search.{Search}
 use Rattle.lookup.specs.Lookup.{answer_of}

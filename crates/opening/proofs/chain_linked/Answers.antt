@@ -1,4 +1,4 @@
-use Rattle.fields.proofs.Base.{eq-eqb, ne_eqb, ◌≡◌, sym, ap, ◌∙◌, arith, ◌-◌, now}
+use Rattle.fields.proofs.Base.{eq-eqb, ne_eqb, ◌≡◌, sym, ap, ◌∙◌, arith, ◌-◌}
 use Rattle.refusals.specs.Refusals.{no_chunk}
 use Rattle.tree.specs.Walk.{chain_run}
 use Rattle.tree.proofs.Steps.{run_none}
@@ -8,7 +8,7 @@ use Rattle.opening.proofs.chain_linked.Goals as goal
 
 pub loop-left-init : goal.loop-left-init
 loop-left-init c = let a = c.args in
-    ap (λ p. chain_run (directory_of a.file.now a.book) (shape_of a.book) a.listings p a.book.first) c.??.no_Chunk.ensures
+    ap (λ p. chain_run (directory_of a.file.now a.book) (shape_of a.book) a.listings p a.book.first) c.no_chunk.ensures
 
 pub returns-in-Broken : goal.returns-in-Broken
 returns-in-Broken c =

@@ -1,4 +1,4 @@
-use Rattle.fields.proofs.Base.{subst, add-sub_cancel_left, arith, ◌+◌, ◌≤◌, length, now}
+use Rattle.fields.proofs.Base.{subst, add-sub_cancel_left, arith, ◌+◌, ◌≤◌, length}
 use Rattle.quickref.specs.declared.Hit.TheVariants.{At}
 use Rattle.opening.specs.Passes.{FirstHit}
 use Rattle.opening.proofs.first_name.Goals as goal
@@ -14,8 +14,8 @@ overflow_add-result c =
     let a = c.args in
     subst (FirstHit a.file.now a.book a.c) c.in-At.is c.first_of.ensures in
     let inside : let e = c.in-At.e in
-    e.start + e.len ≤ length c.??.chunk_bytes_lem.result.now =
-    rw c.??.chunk_bytes_lem.ensures (hit).0 in
+    e.start + e.len ≤ length c.chunk_bytes-bytes.result.now =
+    rw c.chunk_bytes-bytes.ensures (hit).0 in
     omega (arith, inside)
 
 pub slice_bounds-result-end-2 : goal.slice_bounds-result-end-2
@@ -25,8 +25,8 @@ slice_bounds-result-end-2 c =
     let a = c.args in
     subst (FirstHit a.file.now a.book a.c) c.in-At.is c.first_of.ensures in
     let inside : let e = c.in-At.e in
-    e.start + e.len ≤ length c.??.chunk_bytes_lem.result.now =
-    rw c.??.chunk_bytes_lem.ensures (hit).0 in
+    e.start + e.len ≤ length c.chunk_bytes-bytes.result.now =
+    rw c.chunk_bytes-bytes.ensures (hit).0 in
     omega (arith, inside)
 
 pub returns : goal.returns
@@ -36,4 +36,4 @@ returns c =
     let a = c.args in
     subst (FirstHit a.file.now a.book a.c) c.in-At.is c.first_of.ensures in
     let h = hit in
-    rw (← h.1, ← c.??.chunk_bytes_lem.ensures, add-sub_cancel_left)
+    rw (← h.1, ← c.chunk_bytes-bytes.ensures, add-sub_cancel_left)

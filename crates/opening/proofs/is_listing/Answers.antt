@@ -1,4 +1,4 @@
-use Rattle.fields.proofs.Base.{sym, ap, ◌∙◌, arith, now}
+use Rattle.fields.proofs.Base.{sym, ap, ◌∙◌, arith}
 use Rattle.chunk_fields.specs.ChunkFields.{kind_of}
 use Rattle.tree.proofs.Chunks.{past_count}
 use Rattle.book.specs.Book.{directory_of, shape_of}
@@ -12,9 +12,9 @@ returns-then-book-c c = let a = c.args in
 pub returns-in-Listing : goal.returns-in-Listing
 returns-in-Listing c = let a = c.args in
     sym (listing_tagged a.file.now a.book c.requires a.c (omega arith)
-    (ap kind_of (sym c.??.chunk_bytes_lem.ensures) ∙ sym c.??.kind_of_lem.ensures ∙ c.in-Listing.is)).0
+    (ap kind_of (sym c.chunk_bytes.ensures) ∙ sym c.kind_of.ensures ∙ c.in-Listing.is)).0
 
 pub returns-in-Index : goal.returns-in-Index
 returns-in-Index c = let a = c.args in
     sym (index_tagged a.file.now a.book c.requires a.c (omega arith)
-    (ap kind_of (sym c.??.chunk_bytes_lem.ensures) ∙ sym c.??.kind_of_lem.ensures ∙ c.in-Index.is)).0
+    (ap kind_of (sym c.chunk_bytes.ensures) ∙ sym c.kind_of.ensures ∙ c.in-Index.is)).0

@@ -1,5 +1,4 @@
-use Rattle.fields.proofs.Base.{eq-eqb, ne_eqb, ◌≡◌, sym, ◌∙◌, true, false, eqb, now}
-use Rattle.fields.proofs.Tests.{held, failed}
+use Rattle.fields.proofs.Base.{eq-eqb, ne_eqb, ◌≡◌, sym, ◌∙◌, true, false, eqb}
 use Rattle.chunk_fields.specs.ChunkFields.{previous_link, next_link}
 use Rattle.refusals.specs.Refusals.{no_chunk}
 use Rattle.tree.specs.Shape.{previous_of, next_of, listing_chunk}
@@ -11,18 +10,18 @@ use Rattle.opening.proofs.link_from.Goals as goal
 
 pub returns-then-not-is_listing : goal.returns-then-not-is_listing
 unfolding link_of
-returns-then-not-is_listing c = rw (failed c.??.is_listing_lem.ensures c.if-not-is_listing.true)
+returns-then-not-is_listing c = rw (sym c.is_listing.ensures ∙ c.if-not-is_listing.true)
 
 pub returns-then-previous_link-previous : goal.returns-then-previous_link-previous
 unfolding link_of
 returns-then-previous_link-previous c =
     let is_there : let a = c.args in listing_chunk (directory_of a.file.now a.book) (shape_of a.book) a.c ≡ true =
-    held c.??.is_listing_lem.ensures c.if-not-is_listing.false in
+    sym c.is_listing.ensures ∙ c.if-not-is_listing.false in
     let links_are : let a = c.args in let p = directory_of a.file.now a.book a.c in
-    (previous_of p ≡ previous_link c.??.chunk_bytes_lem.result.now) × (next_of p ≡ next_link c.??.chunk_bytes_lem.result.now) =
+    (previous_of p ≡ previous_link c.chunk_bytes-bytes.result.now) × (next_of p ≡ next_link c.chunk_bytes-bytes.result.now) =
     let a = c.args in
     let b = listing_chunk_lem _ _ _ (is_there) in
-    rw c.??.chunk_bytes_lem.ensures (links_stand a.file.now a.book c.requires a.c b.0 b.1) in
+    rw c.chunk_bytes-bytes.ensures (links_stand a.file.now a.book c.requires a.c b.0 b.1) in
     let previous_is : let a = c.args in
     previous_of (directory_of a.file.now a.book a.c) ≡ c.previous_link.result =
     (links_are).0 ∙ sym c.previous_link.ensures in
@@ -32,30 +31,30 @@ pub returns-then-next-no_chunk : goal.returns-then-next-no_chunk
 unfolding link_of
 returns-then-next-no_chunk c =
     let is_there : let a = c.args in listing_chunk (directory_of a.file.now a.book) (shape_of a.book) a.c ≡ true =
-    held c.??.is_listing_lem.ensures c.if-not-is_listing.false in
+    sym c.is_listing.ensures ∙ c.if-not-is_listing.false in
     let links_are : let a = c.args in let p = directory_of a.file.now a.book a.c in
-    (previous_of p ≡ previous_link c.??.chunk_bytes_lem.result.now) × (next_of p ≡ next_link c.??.chunk_bytes_lem.result.now) =
+    (previous_of p ≡ previous_link c.chunk_bytes-bytes.result.now) × (next_of p ≡ next_link c.chunk_bytes-bytes.result.now) =
     let a = c.args in
     let b = listing_chunk_lem _ _ _ (is_there) in
-    rw c.??.chunk_bytes_lem.ensures (links_stand a.file.now a.book c.requires a.c b.0 b.1) in
+    rw c.chunk_bytes-bytes.ensures (links_stand a.file.now a.book c.requires a.c b.0 b.1) in
     let previous_is : let a = c.args in
     previous_of (directory_of a.file.now a.book a.c) ≡ c.previous_link.result =
     (links_are).0 ∙ sym c.previous_link.ensures in
     let next_is : let a = c.args in
     next_of (directory_of a.file.now a.book a.c) ≡ c.next_link-next.result =
     (links_are).1 ∙ sym c.next_link-next.ensures in
-    rw (is_there, previous_is, eq-eqb _ _ c.if-previous_link-previous.false, next_is, eq-eqb _ no_chunk (c.if-next-no_chunk.true ∙ c.??.no_Chunk.ensures))
+    rw (is_there, previous_is, eq-eqb _ _ c.if-previous_link-previous.false, next_is, eq-eqb _ no_chunk (c.if-next-no_chunk.true ∙ c.no_chunk.ensures))
 
 pub returns-then-not-is_listing-2 : goal.returns-then-not-is_listing-2
 unfolding link_of
 returns-then-not-is_listing-2 c =
     let is_there : let a = c.args in listing_chunk (directory_of a.file.now a.book) (shape_of a.book) a.c ≡ true =
-    held c.??.is_listing_lem.ensures c.if-not-is_listing.false in
+    sym c.is_listing.ensures ∙ c.if-not-is_listing.false in
     let links_are : let a = c.args in let p = directory_of a.file.now a.book a.c in
-    (previous_of p ≡ previous_link c.??.chunk_bytes_lem.result.now) × (next_of p ≡ next_link c.??.chunk_bytes_lem.result.now) =
+    (previous_of p ≡ previous_link c.chunk_bytes-bytes.result.now) × (next_of p ≡ next_link c.chunk_bytes-bytes.result.now) =
     let a = c.args in
     let b = listing_chunk_lem _ _ _ (is_there) in
-    rw c.??.chunk_bytes_lem.ensures (links_stand a.file.now a.book c.requires a.c b.0 b.1) in
+    rw c.chunk_bytes-bytes.ensures (links_stand a.file.now a.book c.requires a.c b.0 b.1) in
     let previous_is : let a = c.args in
     previous_of (directory_of a.file.now a.book a.c) ≡ c.previous_link.result =
     (links_are).0 ∙ sym c.previous_link.ensures in
@@ -63,25 +62,25 @@ returns-then-not-is_listing-2 c =
     next_of (directory_of a.file.now a.book a.c) ≡ c.next_link-next.result =
     (links_are).1 ∙ sym c.next_link-next.ensures in
     let another : eqb c.next_link-next.result no_chunk ≡ false =
-    ne_eqb _ no_chunk (λ q. c.if-next-no_chunk.false (q ∙ sym c.??.no_Chunk.ensures)) in
-    rw (is_there, previous_is, eq-eqb _ _ c.if-previous_link-previous.false, next_is, another, failed c.is_listing-2.ensures c.if-not-is_listing-2.true)
+    ne_eqb _ no_chunk (λ q. c.if-next-no_chunk.false (q ∙ sym c.no_chunk.ensures)) in
+    rw (is_there, previous_is, eq-eqb _ _ c.if-previous_link-previous.false, next_is, another, sym c.is_listing-2.ensures ∙ c.if-not-is_listing-2.true)
 
 pub names_rise-requires : goal.names_rise-requires
 names_rise-requires c =
     let is_there : let a = c.args in listing_chunk (directory_of a.file.now a.book) (shape_of a.book) a.c ≡ true =
-    held c.??.is_listing_lem.ensures c.if-not-is_listing.false in
-    (c.requires, (listing_chunk_lem _ _ _ (held c.is_listing-2.ensures c.if-not-is_listing-2.false)).0, is_there)
+    sym c.is_listing.ensures ∙ c.if-not-is_listing.false in
+    (c.requires, (listing_chunk_lem _ _ _ (sym c.is_listing-2.ensures ∙ c.if-not-is_listing-2.false)).0, is_there)
 
 pub returns-then-names_rise : goal.returns-then-names_rise
 unfolding link_of
 returns-then-names_rise c =
     let is_there : let a = c.args in listing_chunk (directory_of a.file.now a.book) (shape_of a.book) a.c ≡ true =
-    held c.??.is_listing_lem.ensures c.if-not-is_listing.false in
+    sym c.is_listing.ensures ∙ c.if-not-is_listing.false in
     let links_are : let a = c.args in let p = directory_of a.file.now a.book a.c in
-    (previous_of p ≡ previous_link c.??.chunk_bytes_lem.result.now) × (next_of p ≡ next_link c.??.chunk_bytes_lem.result.now) =
+    (previous_of p ≡ previous_link c.chunk_bytes-bytes.result.now) × (next_of p ≡ next_link c.chunk_bytes-bytes.result.now) =
     let a = c.args in
     let b = listing_chunk_lem _ _ _ (is_there) in
-    rw c.??.chunk_bytes_lem.ensures (links_stand a.file.now a.book c.requires a.c b.0 b.1) in
+    rw c.chunk_bytes-bytes.ensures (links_stand a.file.now a.book c.requires a.c b.0 b.1) in
     let previous_is : let a = c.args in
     previous_of (directory_of a.file.now a.book a.c) ≡ c.previous_link.result =
     (links_are).0 ∙ sym c.previous_link.ensures in
@@ -89,19 +88,19 @@ returns-then-names_rise c =
     next_of (directory_of a.file.now a.book a.c) ≡ c.next_link-next.result =
     (links_are).1 ∙ sym c.next_link-next.ensures in
     let another : eqb c.next_link-next.result no_chunk ≡ false =
-    ne_eqb _ no_chunk (λ q. c.if-next-no_chunk.false (q ∙ sym c.??.no_Chunk.ensures)) in
-    rw (is_there, previous_is, eq-eqb _ _ c.if-previous_link-previous.false, next_is, another, held c.is_listing-2.ensures c.if-not-is_listing-2.false, sym c.names_rise.ensures ∙ c.if-names_rise.true)
+    ne_eqb _ no_chunk (λ q. c.if-next-no_chunk.false (q ∙ sym c.no_chunk.ensures)) in
+    rw (is_there, previous_is, eq-eqb _ _ c.if-previous_link-previous.false, next_is, another, sym c.is_listing-2.ensures ∙ c.if-not-is_listing-2.false, sym c.names_rise.ensures ∙ c.if-names_rise.true)
 
 pub returns-else-names_rise : goal.returns-else-names_rise
 unfolding link_of
 returns-else-names_rise c =
     let is_there : let a = c.args in listing_chunk (directory_of a.file.now a.book) (shape_of a.book) a.c ≡ true =
-    held c.??.is_listing_lem.ensures c.if-not-is_listing.false in
+    sym c.is_listing.ensures ∙ c.if-not-is_listing.false in
     let links_are : let a = c.args in let p = directory_of a.file.now a.book a.c in
-    (previous_of p ≡ previous_link c.??.chunk_bytes_lem.result.now) × (next_of p ≡ next_link c.??.chunk_bytes_lem.result.now) =
+    (previous_of p ≡ previous_link c.chunk_bytes-bytes.result.now) × (next_of p ≡ next_link c.chunk_bytes-bytes.result.now) =
     let a = c.args in
     let b = listing_chunk_lem _ _ _ (is_there) in
-    rw c.??.chunk_bytes_lem.ensures (links_stand a.file.now a.book c.requires a.c b.0 b.1) in
+    rw c.chunk_bytes-bytes.ensures (links_stand a.file.now a.book c.requires a.c b.0 b.1) in
     let previous_is : let a = c.args in
     previous_of (directory_of a.file.now a.book a.c) ≡ c.previous_link.result =
     (links_are).0 ∙ sym c.previous_link.ensures in
@@ -109,5 +108,5 @@ returns-else-names_rise c =
     next_of (directory_of a.file.now a.book a.c) ≡ c.next_link-next.result =
     (links_are).1 ∙ sym c.next_link-next.ensures in
     let another : eqb c.next_link-next.result no_chunk ≡ false =
-    ne_eqb _ no_chunk (λ q. c.if-next-no_chunk.false (q ∙ sym c.??.no_Chunk.ensures)) in
-    rw (is_there, previous_is, eq-eqb _ _ c.if-previous_link-previous.false, next_is, another, held c.is_listing-2.ensures c.if-not-is_listing-2.false, sym c.names_rise.ensures ∙ c.if-names_rise.false)
+    ne_eqb _ no_chunk (λ q. c.if-next-no_chunk.false (q ∙ sym c.no_chunk.ensures)) in
+    rw (is_there, previous_is, eq-eqb _ _ c.if-previous_link-previous.false, next_is, another, sym c.is_listing-2.ensures ∙ c.if-not-is_listing-2.false, sym c.names_rise.ensures ∙ c.if-names_rise.false)

@@ -1,4 +1,4 @@
-use Rattle.fields.proofs.Base.{◌≡◌, sym, ◌∙◌, add-sub_cancel_left, arith, ◌+◌, ◌≤◌, length, now}
+use Rattle.fields.proofs.Base.{◌≡◌, sym, ◌∙◌, add-sub_cancel_left, arith, ◌+◌, ◌≤◌, length}
 use Rattle.entries.specs.declared.Kind.TheVariants.{Listing}
 use Rattle.quickref.specs.Quickref.{last_in}
 use Rattle.tree.specs.Shape.{last_name}
@@ -12,7 +12,7 @@ unfolding directory_of
 returns-in_default c =
     let asked : let a = c.args in
     c.last_entry.result ≡ last_in (limits_of a.file.now a.book) Listing (chunk_bytes a.file.now a.book a.c) =
-    rw (← c.limits.ensures, ← c.??.chunk_bytes_lem.ensures) c.last_entry.ensures in
+    rw (← c.limits.ensures, ← c.chunk_bytes-bytes.ensures) c.last_entry.ensures in
     let a = c.args in
     absurd (last_found (limits_of a.file.now a.book) Listing (chunk_bytes a.file.now a.book a.c) (listing_chunk_lem (directory_of a.file.now a.book) (shape_of a.book) a.c c.requires.2).1
     (sym c.in_default.is ∙ asked))
@@ -22,15 +22,15 @@ unfolding directory_of
 overflow_add-start c =
     let asked : let a = c.args in
     c.last_entry.result ≡ last_in (limits_of a.file.now a.book) Listing (chunk_bytes a.file.now a.book a.c) =
-    rw (← c.limits.ensures, ← c.??.chunk_bytes_lem.ensures) c.last_entry.ensures in
+    rw (← c.limits.ensures, ← c.chunk_bytes-bytes.ensures) c.last_entry.ensures in
     let hit : let a = c.args in
     Hits (chunk_bytes a.file.now a.book a.c) c.in-At.e (last_name (directory_of a.file.now a.book a.c)) =
     let a = c.args in
     last_hit (limits_of a.file.now a.book) Listing (chunk_bytes a.file.now a.book a.c) (listing_chunk_lem (directory_of a.file.now a.book) (shape_of a.book) a.c c.requires.2).1
     c.in-At.e (sym c.in-At.is ∙ asked) in
     let inside : let e = c.in-At.e in
-    e.start + e.len ≤ length c.??.chunk_bytes_lem.result.now =
-    rw c.??.chunk_bytes_lem.ensures (hit).inside in
+    e.start + e.len ≤ length c.chunk_bytes-bytes.result.now =
+    rw c.chunk_bytes-bytes.ensures (hit).inside in
     omega (arith, inside)
 
 pub slice_bounds-is_before-count : goal.slice_bounds-is_before-count
@@ -38,15 +38,15 @@ unfolding directory_of
 slice_bounds-is_before-count c =
     let asked : let a = c.args in
     c.last_entry.result ≡ last_in (limits_of a.file.now a.book) Listing (chunk_bytes a.file.now a.book a.c) =
-    rw (← c.limits.ensures, ← c.??.chunk_bytes_lem.ensures) c.last_entry.ensures in
+    rw (← c.limits.ensures, ← c.chunk_bytes-bytes.ensures) c.last_entry.ensures in
     let hit : let a = c.args in
     Hits (chunk_bytes a.file.now a.book a.c) c.in-At.e (last_name (directory_of a.file.now a.book a.c)) =
     let a = c.args in
     last_hit (limits_of a.file.now a.book) Listing (chunk_bytes a.file.now a.book a.c) (listing_chunk_lem (directory_of a.file.now a.book) (shape_of a.book) a.c c.requires.2).1
     c.in-At.e (sym c.in-At.is ∙ asked) in
     let inside : let e = c.in-At.e in
-    e.start + e.len ≤ length c.??.chunk_bytes_lem.result.now =
-    rw c.??.chunk_bytes_lem.ensures (hit).inside in
+    e.start + e.len ≤ length c.chunk_bytes-bytes.result.now =
+    rw c.chunk_bytes-bytes.ensures (hit).inside in
     omega (arith, inside)
 
 pub slice_bounds-is_before-start : goal.slice_bounds-is_before-start
@@ -54,15 +54,15 @@ unfolding directory_of
 slice_bounds-is_before-start c =
     let asked : let a = c.args in
     c.last_entry.result ≡ last_in (limits_of a.file.now a.book) Listing (chunk_bytes a.file.now a.book a.c) =
-    rw (← c.limits.ensures, ← c.??.chunk_bytes_lem.ensures) c.last_entry.ensures in
+    rw (← c.limits.ensures, ← c.chunk_bytes-bytes.ensures) c.last_entry.ensures in
     let hit : let a = c.args in
     Hits (chunk_bytes a.file.now a.book a.c) c.in-At.e (last_name (directory_of a.file.now a.book a.c)) =
     let a = c.args in
     last_hit (limits_of a.file.now a.book) Listing (chunk_bytes a.file.now a.book a.c) (listing_chunk_lem (directory_of a.file.now a.book) (shape_of a.book) a.c c.requires.2).1
     c.in-At.e (sym c.in-At.is ∙ asked) in
     let inside : let e = c.in-At.e in
-    e.start + e.len ≤ length c.??.chunk_bytes_lem.result.now =
-    rw c.??.chunk_bytes_lem.ensures (hit).inside in
+    e.start + e.len ≤ length c.chunk_bytes-bytes.result.now =
+    rw c.chunk_bytes-bytes.ensures (hit).inside in
     omega (arith, inside)
 
 pub slice_bounds-is_before-end : goal.slice_bounds-is_before-end
@@ -70,15 +70,15 @@ unfolding directory_of
 slice_bounds-is_before-end c =
     let asked : let a = c.args in
     c.last_entry.result ≡ last_in (limits_of a.file.now a.book) Listing (chunk_bytes a.file.now a.book a.c) =
-    rw (← c.limits.ensures, ← c.??.chunk_bytes_lem.ensures) c.last_entry.ensures in
+    rw (← c.limits.ensures, ← c.chunk_bytes-bytes.ensures) c.last_entry.ensures in
     let hit : let a = c.args in
     Hits (chunk_bytes a.file.now a.book a.c) c.in-At.e (last_name (directory_of a.file.now a.book a.c)) =
     let a = c.args in
     last_hit (limits_of a.file.now a.book) Listing (chunk_bytes a.file.now a.book a.c) (listing_chunk_lem (directory_of a.file.now a.book) (shape_of a.book) a.c c.requires.2).1
     c.in-At.e (sym c.in-At.is ∙ asked) in
     let inside : let e = c.in-At.e in
-    e.start + e.len ≤ length c.??.chunk_bytes_lem.result.now =
-    rw c.??.chunk_bytes_lem.ensures (hit).inside in
+    e.start + e.len ≤ length c.chunk_bytes-bytes.result.now =
+    rw c.chunk_bytes-bytes.ensures (hit).inside in
     omega (arith, inside)
 
 pub returns : goal.returns
@@ -86,10 +86,10 @@ unfolding directory_of
 returns c =
     let asked : let a = c.args in
     c.last_entry.result ≡ last_in (limits_of a.file.now a.book) Listing (chunk_bytes a.file.now a.book a.c) =
-    rw (← c.limits.ensures, ← c.??.chunk_bytes_lem.ensures) c.last_entry.ensures in
+    rw (← c.limits.ensures, ← c.chunk_bytes-bytes.ensures) c.last_entry.ensures in
     let hit : let a = c.args in
     Hits (chunk_bytes a.file.now a.book a.c) c.in-At.e (last_name (directory_of a.file.now a.book a.c)) =
     let a = c.args in
     last_hit (limits_of a.file.now a.book) Listing (chunk_bytes a.file.now a.book a.c) (listing_chunk_lem (directory_of a.file.now a.book) (shape_of a.book) a.c c.requires.2).1
     c.in-At.e (sym c.in-At.is ∙ asked) in
-    rw (← (hit).named, ← c.??.chunk_bytes_lem.ensures) (simp add-sub_cancel_left at c.is_before.ensures)
+    rw (← (hit).named, ← c.chunk_bytes-bytes.ensures) (simp add-sub_cancel_left at c.is_before.ensures)

@@ -1,4 +1,4 @@
-use Rattle.fields.proofs.Base.{◌≡◌, sym, ap, ◌∙◌, now}
+use Rattle.fields.proofs.Base.{◌≡◌, sym, ap, ◌∙◌}
 use Rattle.header.specs.Header.{header_of}
 use Rattle.header.specs.declared.CheckedHeader.TheVariants.{Good}
 use Rattle.header.proofs.Accepted.{header_accepted}

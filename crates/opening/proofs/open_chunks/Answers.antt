@@ -1,4 +1,4 @@
-use Rattle.fields.proofs.Base.{◌≡◌, refl, sym, ap, ◌∙◌, arith, ◌+◌, now}
+use Rattle.fields.proofs.Base.{◌≡◌, refl, sym, ap, ◌∙◌, arith, ◌+◌}
 use Rattle.book.specs.Book.{directory_of}
 use Rattle.opening.specs.Opened.{linked_book}
 use Rattle.opening.specs.declared.Opened.TheVariants.{Refused}

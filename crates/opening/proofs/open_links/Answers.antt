@@ -1,5 +1,4 @@
-use Rattle.fields.proofs.Base.{◌≡◌, ap, arith, now}
-use Rattle.fields.proofs.Tests.{held, failed}
+use Rattle.fields.proofs.Base.{◌≡◌, ap, arith, sym, ◌∙◌}
 use Rattle.tree.specs.Walk.{chain_run_ok, tree_walk_ok}
 use Rattle.book.specs.Book.{directory_of, shape_of}
 use Rattle.opening.specs.declared.Opened.TheVariants.{Refused}
@@ -13,7 +12,7 @@ returns-then-not-chain_linked c =
     c.chain_linked.result ≡ chain_run_ok (directory_of a.file.now a.book) (shape_of a.book) =
     rw (← c.requires.1) c.chain_linked.ensures in
     let a = c.args in
-    rw (linked_run a.file.now a.book c.requires.0, failed (chain_is) c.if-not-chain_linked.true) (ap Refused c.refuse.ensures)
+    rw (linked_run a.file.now a.book c.requires.0, sym chain_is ∙ c.if-not-chain_linked.true) (ap Refused c.refuse.ensures)
 
 pub overflow_sub-book : goal.overflow_sub-book
 overflow_sub-book c = omega (arith, c.requires.1, listing_count c.args.file.now c.args.book c.requires.0)
@@ -29,7 +28,7 @@ returns-then-not-tree_right c =
     let a = c.args in
     rw (index_count a.file.now a.book c.requires.0, ← c.requires.1) c.tree_right.ensures in
     let a = c.args in
-    rw (linked_run a.file.now a.book c.requires.0, held (chain_is) c.if-not-chain_linked.false, failed (tree_is) c.if-not-tree_right.true) (ap Refused c.refuse-then-not-tree_right.ensures)
+    rw (linked_run a.file.now a.book c.requires.0, sym chain_is ∙ c.if-not-chain_linked.false, sym tree_is ∙ c.if-not-tree_right.true) (ap Refused c.refuse-then-not-tree_right.ensures)
 
 pub returns : goal.returns
 unfolding chain_run_ok tree_walk_ok
@@ -42,4 +41,4 @@ returns c =
     let a = c.args in
     rw (index_count a.file.now a.book c.requires.0, ← c.requires.1) c.tree_right.ensures in
     let a = c.args in
-    rw (linked_run a.file.now a.book c.requires.0, held (chain_is) c.if-not-chain_linked.false, held (tree_is) c.if-not-tree_right.false)
+    rw (linked_run a.file.now a.book c.requires.0, sym chain_is ∙ c.if-not-chain_linked.false, sym tree_is ∙ c.if-not-tree_right.false)

@@ -1,4 +1,4 @@
-use Rattle.fields.proofs.Base.{◌≡◌, refl, sym, ◌∙◌, arith, ◌+◌, ◌-◌, now}
+use Rattle.fields.proofs.Base.{◌≡◌, refl, sym, ◌∙◌, arith, ◌+◌, ◌-◌}
 use native.Mathlib.Nat.{sub-zero}
 use Rattle.chunk.specs.Answer.{chunk_of}
 use Rattle.book.specs.Book.{directory_of}

@@ -1,4 +1,4 @@
-use Rattle.fields.proofs.Base.{eq-eqb, ne_eqb, ◌≡◌, sym, ◌∙◌, now}
+use Rattle.fields.proofs.Base.{eq-eqb, ne_eqb, ◌≡◌, sym, ◌∙◌}
 use Rattle.refusals.specs.Refusals.{no_chunk}
 use Rattle.tree.specs.Tree.{top}
 use Rattle.tree.specs.Walk.{walk_tree}
@@ -21,7 +21,7 @@ returns-then-expected-no_chunk c =
     c.walk_tree.result ≡ progress_of (walk_tree (directory_of a.file.now a.book) (shape_of a.book) a.book.depth (top (shape_of a.book)) a.book.first a.indexes) =
     rw (← c.top_chunk.ensures) c.walk_tree.ensures in
     let a = c.args in
-    rw (going_is (walk_tree (directory_of a.file.now a.book) (shape_of a.book) a.book.depth (top (shape_of a.book)) a.book.first a.indexes) c.in-Going.expected c.in-Going.left (sym c.in-Going.is ∙ walked), eq-eqb _ no_chunk (c.if-expected-no_chunk.true ∙ c.??.no_Chunk.ensures))
+    rw (going_is (walk_tree (directory_of a.file.now a.book) (shape_of a.book) a.book.depth (top (shape_of a.book)) a.book.first a.indexes) c.in-Going.expected c.in-Going.left (sym c.in-Going.is ∙ walked), eq-eqb _ no_chunk (c.if-expected-no_chunk.true ∙ c.no_chunk.ensures))
 
 pub returns-else-expected-no_chunk : goal.returns-else-expected-no_chunk
 returns-else-expected-no_chunk c =
@@ -29,4 +29,4 @@ returns-else-expected-no_chunk c =
     c.walk_tree.result ≡ progress_of (walk_tree (directory_of a.file.now a.book) (shape_of a.book) a.book.depth (top (shape_of a.book)) a.book.first a.indexes) =
     rw (← c.top_chunk.ensures) c.walk_tree.ensures in
     let a = c.args in
-    rw (going_is (walk_tree (directory_of a.file.now a.book) (shape_of a.book) a.book.depth (top (shape_of a.book)) a.book.first a.indexes) c.in-Going.expected c.in-Going.left (sym c.in-Going.is ∙ walked), ne_eqb _ no_chunk (λ q. c.if-expected-no_chunk.false (q ∙ sym c.??.no_Chunk.ensures)))
+    rw (going_is (walk_tree (directory_of a.file.now a.book) (shape_of a.book) a.book.depth (top (shape_of a.book)) a.book.first a.indexes) c.in-Going.expected c.in-Going.left (sym c.in-Going.is ∙ walked), ne_eqb _ no_chunk (λ q. c.if-expected-no_chunk.false (q ∙ sym c.no_chunk.ensures)))

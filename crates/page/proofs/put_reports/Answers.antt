@@ -1,4 +1,4 @@
-use Rattle.fields.proofs.Base.{◌≡◌, sym, ap, ◌∙◌, ◌*◌, arith, now, sets}
+use Rattle.fields.proofs.Base.{◌≡◌, sym, ap, ◌∙◌, ◌*◌, arith, sets}
 use Rattle.entries.specs.Entry.{item_at}
 use Rattle.entries.specs.declared.Item.TheVariants.{Good}
 use Rattle.entries.specs.declared.Kind.TheVariants.{Listing}
@@ -9,20 +9,20 @@ use Rattle.page.proofs.Writing.{left_start, left_there, left_turn, left_end}
 use Rattle.page.proofs.put_reports.Goals as goal
 
 pub loop-i-init : goal.loop-i-init
-loop-i-init c = rw c.??.first_place_lem.ensures (left_start c.args.file.now c.args.book c.args.chunk c.requires.0 c.args.out.now)
+loop-i-init c = rw c.first_place-at.ensures (left_start c.args.file.now c.args.book c.args.chunk c.requires.chunk_value c.args.out.now)
 
 pub shape_of-out-in_default : goal.shape_of-out-in_default
 unfolding item_at
 shape_of-out-in_default c =
     let count_is : let a = c.args in
     c.entry_count-total.result ≡ entry_count (chunk_bytes a.file.now a.book a.chunk) =
-    rw (← c.??.chunk_bytes_lem.ensures) c.entry_count-total.ensures in
+    rw (← c.chunk_bytes-c.ensures) c.entry_count-total.ensures in
     let read_is : let a = c.args in
     c.listing_at.result ≡ item_at (limits_of a.file.now a.book) Listing (chunk_bytes a.file.now a.book a.chunk) c.loop-i.at =
-    rw (← c.limits-limits.ensures, ← c.??.chunk_bytes_lem.ensures) c.listing_at.ensures in
+    rw (← c.limits-limits.ensures, ← c.chunk_bytes-c.ensures) c.listing_at.ensures in
     let never_bad : ⊥ =
     let n = count_is in
-    left_there c.args.file.now c.args.book c.args.chunk c.requires.0 _ _ _ _ c.loop-i.invariant (omega arith)
+    left_there c.args.file.now c.args.book c.args.chunk c.requires.chunk_value _ _ _ _ c.loop-i.invariant (omega arith)
     (sym (read_is) ∙ c.in_default.is) in
     absurd (never_bad)
 
@@ -31,13 +31,13 @@ unfolding item_at
 returns-in_default c =
     let count_is : let a = c.args in
     c.entry_count-total.result ≡ entry_count (chunk_bytes a.file.now a.book a.chunk) =
-    rw (← c.??.chunk_bytes_lem.ensures) c.entry_count-total.ensures in
+    rw (← c.chunk_bytes-c.ensures) c.entry_count-total.ensures in
     let read_is : let a = c.args in
     c.listing_at.result ≡ item_at (limits_of a.file.now a.book) Listing (chunk_bytes a.file.now a.book a.chunk) c.loop-i.at =
-    rw (← c.limits-limits.ensures, ← c.??.chunk_bytes_lem.ensures) c.listing_at.ensures in
+    rw (← c.limits-limits.ensures, ← c.chunk_bytes-c.ensures) c.listing_at.ensures in
     let never_bad : ⊥ =
     let n = count_is in
-    left_there c.args.file.now c.args.book c.args.chunk c.requires.0 _ _ _ _ c.loop-i.invariant (omega arith)
+    left_there c.args.file.now c.args.book c.args.chunk c.requires.chunk_value _ _ _ _ c.loop-i.invariant (omega arith)
     (sym (read_is) ∙ c.in_default.is) in
     absurd (never_bad)
 
@@ -45,24 +45,24 @@ pub put_report-requires : goal.put_report-requires
 put_report-requires c =
     let count_is : let a = c.args in
     c.entry_count-total.result ≡ entry_count (chunk_bytes a.file.now a.book a.chunk) =
-    rw (← c.??.chunk_bytes_lem.ensures) c.entry_count-total.ensures in
+    rw (← c.chunk_bytes-c.ensures) c.entry_count-total.ensures in
     let n = count_is in
-    omega (arith, c.loop-i.invariant.size, c.requires.1)
+    omega (arith, c.loop-i.invariant.size, c.requires.chunk_in_bounds)
 
 pub loop-i-preserved : goal.loop-i-preserved
 unfolding item_at
 loop-i-preserved c =
     let count_is : let a = c.args in
     c.entry_count-total.result ≡ entry_count (chunk_bytes a.file.now a.book a.chunk) =
-    rw (← c.??.chunk_bytes_lem.ensures) c.entry_count-total.ensures in
+    rw (← c.chunk_bytes-c.ensures) c.entry_count-total.ensures in
     let read_is : let a = c.args in
     c.listing_at.result ≡ item_at (limits_of a.file.now a.book) Listing (chunk_bytes a.file.now a.book a.chunk) c.loop-i.at =
-    rw (← c.limits-limits.ensures, ← c.??.chunk_bytes_lem.ensures) c.listing_at.ensures in
+    rw (← c.limits-limits.ensures, ← c.chunk_bytes-c.ensures) c.listing_at.ensures in
     let good_is : let a = c.args in
     item_at (limits_of a.file.now a.book) Listing (chunk_bytes a.file.now a.book a.chunk) c.loop-i.at ≡ Good c.in-Good.e =
     sym (read_is) ∙ c.in-Good.is in
     let n = count_is in
-    left_turn c.args.file.now c.args.book c.args.chunk c.requires.0 _ _ _ _ _ _ c.loop-i.invariant (omega arith) (good_is)
+    left_turn c.args.file.now c.args.book c.args.chunk c.requires.chunk_value _ _ _ _ _ _ c.loop-i.invariant (omega arith) (good_is)
     (c.put_report.ensures ∙ ap (λ r. sets c.loop-i.out (5 * c.loop-i.i) (five_of r)) c.report_of.ensures)
 
 pub shape_of-out : goal.shape_of-out
@@ -72,6 +72,6 @@ pub returns : goal.returns
 returns c =
     let count_is : let a = c.args in
     c.entry_count-total.result ≡ entry_count (chunk_bytes a.file.now a.book a.chunk) =
-    rw (← c.??.chunk_bytes_lem.ensures) c.entry_count-total.ensures in
+    rw (← c.chunk_bytes-c.ensures) c.entry_count-total.ensures in
     let n = count_is in
-    left_end c.args.file.now c.args.book c.args.chunk c.requires.0 _ _ _ _ c.loop-i.invariant (omega arith)
+    left_end c.args.file.now c.args.book c.args.chunk c.requires.chunk_value _ _ _ _ c.loop-i.invariant (omega arith)

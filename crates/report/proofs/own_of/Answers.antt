@@ -3,4 +3,4 @@ use Rattle.report.proofs.own_of.Goals as goal
 
 pub returns : goal.returns
 unfolding own_at
-returns c = rw (c.??.IsPlace-in.ensures, c.distance.ensures)
+returns c = rw (c.place_in.ensures, c.distance.ensures)

@@ -3,4 +3,4 @@ use Rattle.report.proofs.report_of.Goals as goal
 
 pub returns : goal.returns
 unfolding report_at
-returns c = rw c.??.IsPlace-in.ensures
+returns c = rw c.place_in.ensures

@@ -1,5 +1,4 @@
-use Rattle.fields.proofs.Base.{◌≡◌, sym, ap, ◌∙◌, true, now}
-use Rattle.fields.proofs.Tests.{held, failed}
+use Rattle.fields.proofs.Base.{◌≡◌, sym, ap, ◌∙◌, true}
 use Rattle.names.specs.Names.{askable}
 use Rattle.lookup.specs.declared.Reply.TheVariants.{Refused}
 use Rattle.lookup.proofs.Replies.{replied_name, replied_record, replied_search}
@@ -11,24 +10,24 @@ pub returns-then-not-good_name : goal.returns-then-not-good_name
 unfolding scanned
 returns-then-not-good_name c = let a = c.args in
     promised a.file.now a.book a.name.now _
-    (ap (λ x. Refused x) c.refuse.ensures ∙ sym (replied_name a.file.now a.book a.name.now _ (failed c.is_askable-good_name.ensures c.if-not-good_name.true)))
+    (ap (λ x. Refused x) c.refuse.ensures ∙ sym (replied_name a.file.now a.book a.name.now _ (sym c.is_askable-good_name.ensures ∙ c.if-not-good_name.true)))
 
 pub returns-then-not-good_record : goal.returns-then-not-good_record
 unfolding scanned
 returns-then-not-good_record c =
     let good_name : askable c.args.name.now ≡ true =
-    held c.is_askable-good_name.ensures c.if-not-good_name.false in
+    sym c.is_askable-good_name.ensures ∙ c.if-not-good_name.false in
     let a = c.args in
     promised a.file.now a.book a.name.now _
     (ap (λ x. Refused x) c.refuse-then-not-good_record.ensures
-    ∙ sym (replied_record a.file.now a.book a.name.now _ (good_name) (failed c.record_fits-good_record.ensures c.if-not-good_record.true)))
+    ∙ sym (replied_record a.file.now a.book a.name.now _ (good_name) (sym c.record_fits-good_record.ensures ∙ c.if-not-good_record.true)))
 
 pub returns : goal.returns
 unfolding scanned
 returns c =
     let good_name : askable c.args.name.now ≡ true =
-    held c.is_askable-good_name.ensures c.if-not-good_name.false in
+    sym c.is_askable-good_name.ensures ∙ c.if-not-good_name.false in
     let a = c.args in
     promised a.file.now a.book a.name.now _
     (c.scan_chain.ensures
-    ∙ sym (replied_search a.file.now a.book a.name.now _ (good_name) (held c.record_fits-good_record.ensures c.if-not-good_record.false)))
+    ∙ sym (replied_search a.file.now a.book a.name.now _ (good_name) (sym c.record_fits-good_record.ensures ∙ c.if-not-good_record.false)))

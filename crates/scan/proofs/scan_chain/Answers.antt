@@ -1,4 +1,4 @@
-use Rattle.fields.proofs.Base.{sym, ap, ◌∙◌, arith, now}
+use Rattle.fields.proofs.Base.{sym, ap, ◌∙◌, arith}
 use Rattle.lookup.specs.Reply.{reply_to}
 use Rattle.lookup.specs.declared.Reply.TheVariants.{Refused}
 use Rattle.tree.proofs.Plain.{plain_whole}
@@ -16,7 +16,7 @@ returns-in-Found c = let a = c.args in
 pub returns-then-next-no_chunk : goal.returns-then-next-no_chunk
 returns-then-next-no_chunk c = let a = c.args in
     sym (turn_end a.file.now a.book a.name.now c.loop-left.left c.loop-left.c (omega arith) _ _ (sym c.search_in.ensures ∙ c.in-Next.is)
-    (c.if-next-no_chunk.true ∙ c.??.no_Chunk.ensures)) ∙ c.loop-left.invariant
+    (c.if-next-no_chunk.true ∙ c.no_chunk.ensures)) ∙ c.loop-left.invariant
 
 pub returns-in-Barred : goal.returns-in-Barred
 returns-in-Barred c = let a = c.args in
@@ -27,7 +27,7 @@ returns-in-Barred c = let a = c.args in
 pub loop-left-preserved : goal.loop-left-preserved
 loop-left-preserved c = let a = c.args in
     sym (ap (reply_to a.book) (turn_on a.file.now a.book a.name.now c.loop-left.left c.loop-left.c (omega arith) _ _
-    (sym c.search_in.ensures ∙ c.in-Next.is) (λ z. c.if-next-no_chunk.false (z ∙ sym c.??.no_Chunk.ensures)))) ∙ c.loop-left.invariant
+    (sym c.search_in.ensures ∙ c.in-Next.is) (λ z. c.if-next-no_chunk.false (z ∙ sym c.no_chunk.ensures)))) ∙ c.loop-left.invariant
 
 pub returns : goal.returns
 returns c = let a = c.args in

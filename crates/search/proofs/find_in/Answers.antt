@@ -1,4 +1,4 @@
-use Rattle.fields.proofs.Base.{◌≡◌, sym, ap, ap₂, ◌∙◌, now}
+use Rattle.fields.proofs.Base.{◌≡◌, sym, ap, ap₂, ◌∙◌}
 use Rattle.names.specs.Names.{compared}
 use Rattle.entries.specs.declared.Kind.TheVariants.{Listing}
 use Rattle.quickref.specs.declared.Hit.{Hit}
@@ -20,7 +20,7 @@ returns-in-At c =
       hit = find_in (limits_of a.file.now a.book) (chunk_bytes a.file.now a.book a.c) (compared a.name.now);
       count = cost_in (limits_of a.file.now a.book) Listing (chunk_bytes a.file.now a.book a.c) (compared a.name.now);
     } ≡ c.find-found.result =
-    rw (← c.limits.ensures, ← c.??.chunk_bytes_lem.ensures) (sym c.find-found.ensures) in
+    rw (← c.limits.ensures, ← c.chunk_bytes-bytes.ensures) (sym c.find-found.ensures) in
     let finding_is : (h : Hit) → c.find-found.result.hit ≡ h → let a = c.args in
     finding_of a.file.now a.book a.c c.find-found.result.count h ≡ finding_in a.file.now a.book a.name.now a.c =
     λ h q. let a = c.args in
@@ -35,7 +35,7 @@ returns-in-Nothing c =
       hit = find_in (limits_of a.file.now a.book) (chunk_bytes a.file.now a.book a.c) (compared a.name.now);
       count = cost_in (limits_of a.file.now a.book) Listing (chunk_bytes a.file.now a.book a.c) (compared a.name.now);
     } ≡ c.find-found.result =
-    rw (← c.limits.ensures, ← c.??.chunk_bytes_lem.ensures) (sym c.find-found.ensures) in
+    rw (← c.limits.ensures, ← c.chunk_bytes-bytes.ensures) (sym c.find-found.ensures) in
     let finding_is : (h : Hit) → c.find-found.result.hit ≡ h → let a = c.args in
     finding_of a.file.now a.book a.c c.find-found.result.count h ≡ finding_in a.file.now a.book a.name.now a.c =
     λ h q. let a = c.args in

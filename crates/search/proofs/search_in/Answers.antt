@@ -1,4 +1,4 @@
-use Rattle.fields.proofs.Base.{sym, ◌∙◌, now}
+use Rattle.fields.proofs.Base.{sym, ◌∙◌}
 use Rattle.book.proofs.Checked.{Linked, checked_listing, checked_no_listing}
 use Rattle.search.proofs.Searching.{search_found, search_next, search_barred}
 use Rattle.search.proofs.search_in.Goals as goal
@@ -6,7 +6,7 @@ use Rattle.search.proofs.search_in.Goals as goal
 pub returns-in_default : goal.returns-in_default
 returns-in_default c = let a = c.args in
     search_barred a.file.now a.book a.name.now a.c
-    (checked_no_listing a.file.now a.book a.c c.checked_chunk.result c.checked_chunk.ensures c.in_default.keys2)
+    (checked_no_listing a.file.now a.book a.c c.checked_chunk.result c.checked_chunk.ensures c.in_default.not-Listing)
 
 pub returns-in-Found : goal.returns-in-Found
 returns-in-Found c =

@@ -12,4 +12,4 @@ pub returns : goal.returns
 unfolding in_both
 returns c = let a = c.args in
     let t : same_at a.x a.y ≡ false = sym c.same_at.ensures ∙ c.if-same_at.false in
-    rw (t, c.after-first.ensures, c.after-second.ensures, c.show-a.ensures, c.show-b.ensures, c.??.one_changed_lem.ensures)
+    rw (t, c.after-first.ensures, c.after-second.ensures, c.show-a.ensures, c.show-b.ensures, c.one_changed-totals.ensures)

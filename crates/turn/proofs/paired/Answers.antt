@@ -1,4 +1,4 @@
-use Rattle.fields.proofs.Base.{◌≡◌, now}
+use Rattle.fields.proofs.Base.{◌≡◌}
 use Rattle.names.specs.Names.{compared}
 use Rattle.walk.specs.Walk.{name_here}
 use Rattle.turn.specs.Turn.{paired}

@@ -1,4 +1,4 @@
 use Rattle.turn.proofs.show.Goals as goal
 
 pub returns : goal.returns
-returns c = rw (c.report_of.ensures, c.??.own_of_lem.ensures)
+returns c = rw (c.report_of.ensures, c.own_of.ensures)

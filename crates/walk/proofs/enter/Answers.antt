@@ -1,4 +1,4 @@
-use Rattle.fields.proofs.Base.{◌≡◌, sym, ap, ap₂, ◌∙◌, false, ℕ, ◌-◌, arith, now}
+use Rattle.fields.proofs.Base.{◌≡◌, sym, ap, ap₂, ◌∙◌, false, ℕ, ◌-◌, arith}
 use Rattle.entries.specs.declared.Kind.{Kind}
 use Rattle.chunk_fields.specs.ChunkFields.{first_place, entry_count}
 use Rattle.chunk.specs.declared.Chunk.TheVariants.{Listing}
@@ -49,10 +49,10 @@ returns c =
     sym c.checked_chunk.ensures ∙ c.in-Listing.is in
     let count_is : let a = c.args in
     c.entry_count-left.result ≡ entry_count (chunk_bytes a.file.now a.book a.w.next) =
-    rw (← c.??.chunk_bytes_lem.ensures) c.entry_count-left.ensures in
+    rw (← c.chunk_bytes.ensures) c.entry_count-left.ensures in
     let a = c.args in
     let d = checked_listing a.file.now a.book a.w.next _ _ (met_is) in
-    ap (λ (i : ℕ). Inside (record { chunk = a.w.next; at = i; left = c.entry_count-left.result; next = c.in-Listing.next; more = a.w.more - 1 })) c.??.first_place_lem.ensures
+    ap (λ (i : ℕ). Inside (record { chunk = a.w.next; at = i; left = c.entry_count-left.result; next = c.in-Listing.next; more = a.w.more - 1 })) c.first_place-at.ensures
     ∙ ap₂ (λ (c⟨After-entry-count⟩ k : ℕ). Inside (record { chunk = a.w.next; at = first_place Kind.Listing; left = c⟨After-entry-count⟩; next = k; more = a.w.more - 1 }))
     (count_is ∙ sym (entries_length a.file.now a.book a.w.next d.kind)) (sym d.next_is)
     ∙ sym (enter_chunk a.file.now a.book a.w c.if-w-gt0.false (on) (omega arith) d.below)

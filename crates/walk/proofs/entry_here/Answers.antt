@@ -1,4 +1,4 @@
-use Rattle.fields.proofs.Base.{◌≡◌, sym, ap, ◌∙◌, now}
+use Rattle.fields.proofs.Base.{◌≡◌, sym, ap, ◌∙◌}
 use Rattle.entries.specs.Entry.{item_at}
 use Rattle.entries.specs.declared.Kind.TheVariants.{Listing}
 use Rattle.book.specs.Book.{limits_of, chunk_bytes}
@@ -11,7 +11,7 @@ unfolding item_at
 returns-in-Good c =
     let item_is : let a = c.args in
     c.listing_at.result ≡ item_at (limits_of a.file.now a.book) Listing (chunk_bytes a.file.now a.book a.w.chunk) a.w.at =
-    rw (← c.limits-limits.ensures, ← c.??.chunk_bytes_lem.ensures) c.listing_at.ensures in
+    rw (← c.limits-limits.ensures, ← c.chunk_bytes-c.ensures) c.listing_at.ensures in
     let a = c.args in
     sym (here_entry a.file.now a.book a.w _ (sym (item_is) ∙ c.in-Good.is))
 
@@ -20,7 +20,7 @@ unfolding item_at
 returns-in-Bad c =
     let item_is : let a = c.args in
     c.listing_at.result ≡ item_at (limits_of a.file.now a.book) Listing (chunk_bytes a.file.now a.book a.w.chunk) a.w.at =
-    rw (← c.limits-limits.ensures, ← c.??.chunk_bytes_lem.ensures) c.listing_at.ensures in
+    rw (← c.limits-limits.ensures, ← c.chunk_bytes-c.ensures) c.listing_at.ensures in
     let a = c.args in
     ap Refused c.no_reading.ensures
     ∙ sym (here_none a.file.now a.book a.w (sym (item_is) ∙ c.in-Bad.is))

@@ -1,5 +1,4 @@
-use Rattle.fields.proofs.Base.{◌≡◌, sym, ap, ◌∙◌, true, now}
-use Rattle.fields.proofs.Tests.{held, failed}
+use Rattle.fields.proofs.Base.{◌≡◌, sym, ap, ◌∙◌, true}
 use Rattle.refusals.specs.Refusals.{no_chunk}
 use Rattle.chunk.specs.declared.Chunk.TheVariants.{Listing}
 use Rattle.book.specs.Book.{record_fits, checked_chunk}
@@ -10,14 +9,14 @@ use Rattle.listing.proofs.Cursor.step.Goals as goal
 
 pub returns-then-not-record_fits : goal.returns-then-not-record_fits
 returns-then-not-record_fits c = let a = c.args in
-    ap Refused c.refuse.ensures ∙ sym (step_unfit a.file.now a.book a.self (failed c.record_fits.ensures c.if-not-record_fits.true))
+    ap Refused c.refuse.ensures ∙ sym (step_unfit a.file.now a.book a.self (sym c.record_fits.ensures ∙ c.if-not-record_fits.true))
 
 pub returns-then-self-no_chunk : goal.returns-then-self-no_chunk
 returns-then-self-no_chunk c =
     let fits_is : let a = c.args in record_fits a.file.now a.book ≡ true =
-    held c.record_fits.ensures c.if-not-record_fits.false in
+    sym c.record_fits.ensures ∙ c.if-not-record_fits.false in
     let a = c.args in
-    sym (step_end a.file.now a.book a.self (fits_is) (c.if-self-no_chunk.true ∙ c.??.no_Chunk.ensures))
+    sym (step_end a.file.now a.book a.self (fits_is) (c.if-self-no_chunk.true ∙ c.no_chunk.ensures))
 
 pub step_in-requires : goal.step_in-requires
 step_in-requires c =
@@ -31,12 +30,12 @@ step_in-requires c =
 pub returns-in-Listing : goal.returns-in-Listing
 returns-in-Listing c =
     let fits_is : let a = c.args in record_fits a.file.now a.book ≡ true =
-    held c.record_fits.ensures c.if-not-record_fits.false in
+    sym c.record_fits.ensures ∙ c.if-not-record_fits.false in
     let met_is : let a = c.args in
     checked_chunk a.file.now a.book a.self.chunk ≡ Listing c.in-Listing.field-0 c.in-Listing.next =
     sym c.checked_chunk.ensures ∙ c.in-Listing.is in
     let another : c.args.self.chunk ≡ no_chunk → ⊥ =
-    λ q. c.if-self-no_chunk.false (q ∙ sym c.??.no_Chunk.ensures) in
+    λ q. c.if-self-no_chunk.false (q ∙ sym c.no_chunk.ensures) in
     let a = c.args in
     let m = checked_listing a.file.now a.book a.self.chunk _ _ (met_is) in
     c.step_in.ensures ∙ sym (step_entry a.file.now a.book a.self (fits_is) (another) m.below)
@@ -44,9 +43,9 @@ returns-in-Listing c =
 pub returns-in-Index : goal.returns-in-Index
 returns-in-Index c =
     let fits_is : let a = c.args in record_fits a.file.now a.book ≡ true =
-    held c.record_fits.ensures c.if-not-record_fits.false in
+    sym c.record_fits.ensures ∙ c.if-not-record_fits.false in
     let another : c.args.self.chunk ≡ no_chunk → ⊥ =
-    λ q. c.if-self-no_chunk.false (q ∙ sym c.??.no_Chunk.ensures) in
+    λ q. c.if-self-no_chunk.false (q ∙ sym c.no_chunk.ensures) in
     let a = c.args in
     ap Refused c.refuse-in-Index.ensures
     ∙ sym (step_other a.file.now a.book a.self (fits_is) (another)
@@ -55,9 +54,9 @@ returns-in-Index c =
 pub returns-in-Refused : goal.returns-in-Refused
 returns-in-Refused c =
     let fits_is : let a = c.args in record_fits a.file.now a.book ≡ true =
-    held c.record_fits.ensures c.if-not-record_fits.false in
+    sym c.record_fits.ensures ∙ c.if-not-record_fits.false in
     let another : c.args.self.chunk ≡ no_chunk → ⊥ =
-    λ q. c.if-self-no_chunk.false (q ∙ sym c.??.no_Chunk.ensures) in
+    λ q. c.if-self-no_chunk.false (q ∙ sym c.no_chunk.ensures) in
     let a = c.args in
     ap Refused c.refuse-in-Refused.ensures
     ∙ sym (step_other a.file.now a.book a.self (fits_is) (another)

@@ -3,4 +3,4 @@ use Rattle.walk.proofs.Walk.name.Goals as goal
 
 pub returns : goal.returns
 unfolding name_here
-returns c = rw (← c.??.chunk_bytes_lem.ensures) c.part.ensures
+returns c = rw (← c.chunk_bytes.ensures) c.part.ensures

@@ -13,4 +13,4 @@ pub returns : goal.returns
 unfolding walk_start
 returns c = let book = c.args.book in
     promised book _
-    (ap (λ (n : ℕ). let w : Walk = record { chunk = n; at = 0; left = 0; next = book.first; more = book.count } in w) c.??.no_Chunk.ensures)
+    (ap (λ (n : ℕ). let w : Walk = record { chunk = n; at = 0; left = 0; next = book.first; more = book.count } in w) c.no_chunk.ensures)
