@@ -100,6 +100,8 @@ children : (content : ℕ) (s front ps : List ℕ) (gs : List (List Stored)) →
     → map (stored_of s) (rows_from content s (front ++ ps) Index (length ps) (length front)) ≡ children_of (length front) gs
 unfolding children_of item_from index_entry_for
 children content s front [] [] Starts.none = ap (map (stored_of s)) (run_spent (item_from content s (front ++ []) Index) 0 (length front) (omega arith))
+children content s front [] (g ∷ gs) x'' = elim x'' [ ]
+children content s front (p ∷ ps) [] x3 = elim x3 [ ]
 children content s front (p ∷ ps) (g ∷ gs) (Starts.more e some rest) =
     let c = length front in
     let starts : List ℕ = front ++ (p ∷ ps) in

@@ -19,6 +19,7 @@ in_numbers c (suc n) x a b =
 -- ---- tests of members
 
 in_member : (x : ℕ) (l : List ℕ) → In x l → member x l ≡ true
+in_member x [] m = elim m [ ]
 in_member x (y ∷ ys) (inl e) = rw (eq-eqb x y e)
 in_member x (y ∷ ys) (inr m) = on_test (eqb x y) (λ e. rw e) (λ e. rw e (in_member x ys m))
 

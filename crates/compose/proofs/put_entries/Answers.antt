@@ -1,13 +1,10 @@
-use Rattle.fields.proofs.Base.{◌≡◌, refl, sym, ◌∙◌, arith, length, now}
+use Rattle.fields.proofs.Base.{◌≡◌, refl, sym, ◌∙◌, arith, length}
 use Rattle.pack.proofs.Filling.{Fitted, fitted}
 use Rattle.compose.proofs.Turns.{Turn, putting_start, putting_turn, putting_more, putting_end}
 use Rattle.compose.proofs.put_entries.Goals as goal
 
 pub loop-e-init : goal.loop-e-init
 loop-e-init c = let p = c.requires in (refl, putting_start _ _ _ _ _ _ _ _ p.0 p.1)
-
-pub shape_of-out-in_default : goal.shape_of-out-in_default
-shape_of-out-in_default c = c.loop-e.invariant.0
 
 pub returns-in_default : goal.returns-in_default
 returns-in_default c = putting_end _ _ _ _ _ _ _ _ _ c.loop-e.invariant.1 (sym c.next_fit.ensures ∙ c.in_default.is)
@@ -20,7 +17,7 @@ overflow_add-first c =
     let turn : let a = c.args in
     Turn a.content a.input.now a.starts.now a.from.kind a.from.left a.from.at a.n c.loop-e.out c.loop-e.f c.loop-e.invariant.1 c.in-Entry.e c.in-Entry.bytes (next) =
     putting_turn _ _ _ _ _ _ _ _ _ _ _ _ _ in
-    omega (arith, (turn).ranges, c.first_place-first.ensures)
+    omega (arith, (turn).fits, c.first_place-first.ensures)
 
 pub put_entry-requires : goal.put_entry-requires
 put_entry-requires c =
@@ -32,7 +29,7 @@ put_entry-requires c =
     let turn : let a = c.args in
     Turn a.content a.input.now a.starts.now a.from.kind a.from.left a.from.at a.n c.loop-e.out c.loop-e.f c.loop-e.invariant.1 c.in-Entry.e c.in-Entry.bytes (next) =
     putting_turn _ _ _ _ _ _ _ _ _ _ _ _ _ in
-    (omega (arith, (turn).ranges, whole_size, c.first_place-first.ensures), (next).inside)
+    (omega (arith, (turn).fits, whole_size, c.first_place-first.ensures), (next).inside)
 
 pub put_quick_word-requires : goal.put_quick_word-requires
 put_quick_word-requires c =
@@ -44,7 +41,7 @@ put_quick_word-requires c =
     let turn : let a = c.args in
     Turn a.content a.input.now a.starts.now a.from.kind a.from.left a.from.at a.n c.loop-e.out c.loop-e.f c.loop-e.invariant.1 c.in-Entry.e c.in-Entry.bytes (next) =
     putting_turn _ _ _ _ _ _ _ _ _ _ _ _ _ in
-    (c.put_entry.auto.0 ∙ whole_size, (turn).words, omega (arith, (turn).near))
+    (c.put_entry.auto.out ∙ whole_size, (turn).words, omega (arith, (turn).near))
 
 pub overflow_add-f : goal.overflow_add-f
 overflow_add-f c =
@@ -77,4 +74,4 @@ loop-e-preserved c =
     fitted _ _ _ _ _ _ _ _ _ _ _ (sym c.next_fit.ensures ∙ c.in-Entry.is) in
     let p = c.put_entry in
     let m = c.put_quick_word in
-    (m.auto.0 ∙ p.auto.0 ∙ c.loop-e.invariant.0, putting_more _ _ _ _ _ _ _ _ _ c.loop-e.invariant.1 _ _ (next) _ _ _ c.first_place-first.ensures p.ensures m.ensures)
+    (m.auto.out ∙ p.auto.out ∙ c.loop-e.invariant.0, putting_more _ _ _ _ _ _ _ _ _ c.loop-e.invariant.1 _ _ (next) _ _ _ c.first_place-first.ensures p.ensures m.ensures)

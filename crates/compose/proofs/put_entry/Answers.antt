@@ -15,7 +15,7 @@ pub put_name-from-requires : goal.put_name-from-requires
 put_name-from-requires c = let a = c.args in (omega (arith, c.requires.0, size_name a.kind a.e), c.requires.1)
 
 pub put_numbers-requires : goal.put_numbers-requires
-put_numbers-requires c = let a = c.args in omega (arith, c.requires.0, size_listing a.kind a.e c.in-Listing.is, c.put_name-from.ensures.0, c.put_name-from.auto.0)
+put_numbers-requires c = let a = c.args in omega (arith, c.requires.0, size_listing a.kind a.e c.in-Listing.is, c.put_name-from.ensures.0, c.put_name-from.auto.out)
 
 pub returns-in-Listing : goal.returns-in-Listing
 returns-in-Listing c = let a = c.args in
@@ -30,10 +30,10 @@ returns-in-Listing c = let a = c.args in
 pub returns-in-Index : goal.returns-in-Index
 returns-in-Index c =
     let child_at : let a = c.args in
-    (c.write.result ≡ length (encoded a.e.child)) × (c.write.new.0 ≡ sets c.put_name-from.new.0 c.put_name-from.result (encoded a.e.child)) =
+    (c.write.result ≡ length (encoded a.e.child)) × (c.write.new.out ≡ sets c.put_name-from.new.out c.put_name-from.result (encoded a.e.child)) =
     let a = c.args in
-    written c.put_name-from.new.0 c.put_name-from.result a.e.child _ _
-    (omega (arith, c.requires.0, size_index a.kind a.e c.in-Index.is, c.put_name-from.ensures.0, c.put_name-from.auto.0)) c.write.ensures.count c.write.ensures.bytes in
+    written c.put_name-from.new.out c.put_name-from.result a.e.child _ _
+    (omega (arith, c.requires.0, size_index a.kind a.e c.in-Index.is, c.put_name-from.ensures.0, c.put_name-from.auto.out)) c.write.ensures.count c.write.ensures.bytes in
     let a = c.args in
     let x = c.put_name-from.ensures in
     let y = child_at in

@@ -11,7 +11,7 @@ returns c = let u = c.put_chunk_header in
     let h = c.first_place in
     let a = c.args in
     let n : 4096 - (h.result + a.used) ≡ 4096 - (first_place a.kind + a.used) = ap (λ (m : ℕ). 4096 - (m + a.used)) h.ensures in
-    let l : length u.new.0 ≡ 4096 = u.auto.0 ∙ c.requires.0 in
+    let l : length u.new.out ≡ 4096 = u.auto.out ∙ c.requires.0 in
     c.put16.ensures.written
-    ∙ put_inside u.new.0 count_place (bytes 2 a.count) (omega (arith, length_bytes 2 a.count))
+    ∙ put_inside u.new.out count_place (bytes 2 a.count) (omega (arith, length_bytes 2 a.count))
     ∙ ap (λ (o : List ℕ). sets o count_place (bytes 2 a.count)) (u.ensures ∙ ap (λ (m : ℕ). sets a.out.now 0 (chunk_header a.kind m a.prev a.next)) n)

@@ -6,35 +6,35 @@ use Rattle.compose.proofs.put_numbers.Goals as goal
 pub overflow_add-from : goal.overflow_add-from
 overflow_add-from c =
     let first_at_lem : let a = c.args in
-    (c.write.result ≡ length (encoded a.section)) × (c.write.new.0 ≡ sets a.out.now a.at (encoded a.section)) =
+    (c.write.result ≡ length (encoded a.section)) × (c.write.new.out ≡ sets a.out.now a.at (encoded a.section)) =
     let a = c.args in written a.out.now a.at a.section _ _ (omega arith) c.write.ensures.count c.write.ensures.bytes in
     omega (arith, (first_at_lem).0)
 
 pub overflow_add-then : goal.overflow_add-then
 overflow_add-then c =
     let first_at_lem : let a = c.args in
-    (c.write.result ≡ length (encoded a.section)) × (c.write.new.0 ≡ sets a.out.now a.at (encoded a.section)) =
+    (c.write.result ≡ length (encoded a.section)) × (c.write.new.out ≡ sets a.out.now a.at (encoded a.section)) =
     let a = c.args in written a.out.now a.at a.section _ _ (omega arith) c.write.ensures.count c.write.ensures.bytes in
     let second_at : let a = c.args in
-    (c.write-2.result ≡ length (encoded a.offset)) × (c.write-2.new.0 ≡ sets c.write.new.0 (a.at + c.write.result) (encoded a.offset)) =
+    (c.write-2.result ≡ length (encoded a.offset)) × (c.write-2.new.out ≡ sets c.write.new.out (a.at + c.write.result) (encoded a.offset)) =
     let a = c.args in
-    written c.write.new.0 (a.at + c.write.result) a.offset _ _ (omega (arith, (first_at_lem).0, c.write.auto.0)) c.write-2.ensures.count c.write-2.ensures.bytes in
+    written c.write.new.out (a.at + c.write.result) a.offset _ _ (omega (arith, (first_at_lem).0, c.write.auto.out)) c.write-2.ensures.count c.write-2.ensures.bytes in
     omega (arith, (first_at_lem).0, (second_at).0)
 
 pub returns : goal.returns
 returns c =
     let first_at_lem : let a = c.args in
-    (c.write.result ≡ length (encoded a.section)) × (c.write.new.0 ≡ sets a.out.now a.at (encoded a.section)) =
+    (c.write.result ≡ length (encoded a.section)) × (c.write.new.out ≡ sets a.out.now a.at (encoded a.section)) =
     let a = c.args in written a.out.now a.at a.section _ _ (omega arith) c.write.ensures.count c.write.ensures.bytes in
     let second_at : let a = c.args in
-    (c.write-2.result ≡ length (encoded a.offset)) × (c.write-2.new.0 ≡ sets c.write.new.0 (a.at + c.write.result) (encoded a.offset)) =
+    (c.write-2.result ≡ length (encoded a.offset)) × (c.write-2.new.out ≡ sets c.write.new.out (a.at + c.write.result) (encoded a.offset)) =
     let a = c.args in
-    written c.write.new.0 (a.at + c.write.result) a.offset _ _ (omega (arith, (first_at_lem).0, c.write.auto.0)) c.write-2.ensures.count c.write-2.ensures.bytes in
+    written c.write.new.out (a.at + c.write.result) a.offset _ _ (omega (arith, (first_at_lem).0, c.write.auto.out)) c.write-2.ensures.count c.write-2.ensures.bytes in
     let third_at : let a = c.args in
-    (c.write-3.result ≡ length (encoded a.size)) × (c.write-3.new.0 ≡ sets c.write-2.new.0 (a.at + c.write.result + c.write-2.result) (encoded a.size)) =
+    (c.write-3.result ≡ length (encoded a.size)) × (c.write-3.new.out ≡ sets c.write-2.new.out (a.at + c.write.result + c.write-2.result) (encoded a.size)) =
     let a = c.args in
-    written c.write-2.new.0 (a.at + c.write.result + c.write-2.result) a.size _ _
-    (omega (arith, (first_at_lem).0, (second_at).0, c.write.auto.0, c.write-2.auto.0)) c.write-3.ensures.count c.write-3.ensures.bytes in
+    written c.write-2.new.out (a.at + c.write.result + c.write-2.result) a.size _ _
+    (omega (arith, (first_at_lem).0, (second_at).0, c.write.auto.out, c.write-2.auto.out)) c.write-3.ensures.count c.write-3.ensures.bytes in
     let a = c.args in
     let x = first_at_lem in
     let y = second_at in

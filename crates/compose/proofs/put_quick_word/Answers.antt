@@ -24,6 +24,6 @@ pub returns : goal.returns
 returns c = let a = c.args in
     let m = mark_some a.n a.i a.offset (omega arith) c.if-i-n-ne0.false in
     let r = c.put16 in
-    r.ensures.1 ∙ ap (λ (p : ℕ). put a.out.now p (bytes 2 a.offset)) c.quick_place.ensures
+    r.ensures.written ∙ ap (λ (p : ℕ). put a.out.now p (bytes 2 a.offset)) c.quick_place.ensures
     ∙ put_inside a.out.now (quick_place (a.i / a.n)) (bytes 2 a.offset) (omega (arith, length_bytes 2 a.offset, c.requires))
     ∙ ap (sets a.out.now (quick_place (a.i / a.n))) (sym m)

@@ -1,4 +1,4 @@
-use Rattle.fields.proofs.Base.{◌≡◌, sym, ap, ◌∙◌, cond, List, ℕ, arith, length, replicate, eqb, now, eq-eqb, ne_eqb}
+use Rattle.fields.proofs.Base.{◌≡◌, sym, ap, ◌∙◌, cond, List, ℕ, arith, length, replicate, eqb, eq-eqb, ne_eqb}
 use Rattle.compose.proofs.Whole.{Told, extent_told, chunk_written}
 use Rattle.compose.proofs.write_chunk.Goals as goal
 
@@ -14,7 +14,7 @@ returns-then-out-ne4096 c = record { answer = c.fill.ensures; written = other_si
 
 pub put_entries-f-requires : goal.put_entries-f-requires
 put_entries-f-requires c = let z = c.clear in
-    (z.auto.0 ∙ c.if-out-ne4096.false, z.ensures ∙ ap (λ (m : ℕ). replicate {A = ℕ} m 0) (sym z.auto.0))
+    (z.auto.out ∙ c.if-out-ne4096.false, z.ensures ∙ ap (λ (m : ℕ). replicate {A = ℕ} m 0) (sym z.auto.out))
 
 pub put_frame-requires : goal.put_frame-requires
 put_frame-requires c =
@@ -22,12 +22,14 @@ put_frame-requires c =
     Told a.content a.input.now a.starts.now a.from.kind a.from.left a.from.at a.n c.put_entries-f.result c.put_entries-f.ensures.0 =
     extent_told _ _ _ _ _ _ _ _ _ in
     let t = told in
-    (c.put_entries-f.auto.0 ∙ c.clear.auto.0 ∙ c.if-out-ne4096.false, omega (arith, t.room), omega (arith, t.room, t.few))
+    (c.put_entries-f.auto.out ∙ c.clear.auto.out ∙ c.if-out-ne4096.false, omega (arith, t.room), omega (arith, t.room, t.few))
 
 pub returns : goal.returns
 returns c = let p = c.put_entries-f in
-    let a = c.args in (
-      p.ensures.0,
-      chunk_written _ _ _ _ _ _ _ _ p.ensures.0 a.prev a.next _ _ p.ensures.1 c.put_frame.ensures
-          ∙ whole_size a.out.now _ c.if-out-ne4096.false,
-    )
+    let a = c.args in
+    record {
+      answer = p.ensures.0;
+      written =
+          chunk_written _ _ _ _ _ _ _ _ p.ensures.0 a.prev a.next _ _ p.ensures.1 c.put_frame.ensures
+          ∙ whole_size a.out.now _ c.if-out-ne4096.false;
+    }

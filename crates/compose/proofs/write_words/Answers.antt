@@ -9,8 +9,8 @@ loop-i-init c = (search rules, refl, rw add-zero)
 pub loop-i-preserved : goal.loop-i-preserved
 loop-i-preserved c = let l = c.loop-i in
     let r = c.put32 in
-    let k : length r.new.0 ≡ length l.out = r.auto.0 in
-    (search rules, k ∙ l.invariant.1, words_turn _ l.i _ l.out _ _ c.loop-i-test.true (omega (arith, c.requires, l.invariant.1)) r.ensures.1 l.invariant.2)
+    let k : length r.new.out ≡ length l.out = r.auto.out in
+    (search rules, k ∙ l.invariant.1, words_turn _ l.i _ l.out _ _ c.loop-i-test.true (omega (arith, c.requires, l.invariant.1)) r.ensures.written l.invariant.2)
 
 pub returns : goal.returns
 returns c = let l = c.loop-i in sets_end _ _ _ _ (words_end _ l.i c.loop-i-test.false) l.invariant.2

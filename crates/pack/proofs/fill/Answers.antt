@@ -1,4 +1,4 @@
-use Rattle.fields.proofs.Base.{refl, sym, ◌∙◌, arith, now}
+use Rattle.fields.proofs.Base.{refl, sym, ◌∙◌, arith}
 use Rattle.pack.proofs.Filling.{Fitted, fitted, full}
 use Rattle.pack.proofs.fill.Goals as goal
 

@@ -1,4 +1,4 @@
-use Rattle.fields.proofs.Base.{◌≡◌, sym, ◌∙◌, ◌≤◌, arith, now}
+use Rattle.fields.proofs.Base.{◌≡◌, sym, ◌∙◌, ◌≤◌, arith}
 use Rattle.source.specs.Source.{item_from}
 use Rattle.source.proofs.Rows.{Stepped, taken_entry, run_end, row_of}
 use Rattle.pack.specs.Fill.{row_size}
