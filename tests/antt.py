@@ -499,7 +499,7 @@ class Crates:
                 self.depends[m[1]] = m[2].split()
                 self.order.append(m[1])
         self.files, self.sources = {}, []
-        for path in sorted(top.glob('crates/*/**/*.antt')):
+        for path in sorted(p for folder in ('specs', 'proofs') for p in top.glob('crates/*/%s/**/*.antt' % folder)):
             crate = path.relative_to(top).parts[1]
             f = File(path, crate)
             self.files[crate, f.folder, f.module] = f
