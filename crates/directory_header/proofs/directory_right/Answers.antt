@@ -11,13 +11,13 @@ pub overflow_mul-f : goal.overflow_mul-f
 overflow_mul-f c =
     let bounded : bounds_right c.args.f ≡ true =
     sym c.bounds_right.ensures ∙ c.if-not-bounds_right.false in
-    omega (arith, (bounds_told _ (bounded)).count_high)
+    omega (arith, (bounds_told _ bounded).count_high)
 
 pub overflow_add-f : goal.overflow_add-f
 overflow_add-f c =
     let bounded : bounds_right c.args.f ≡ true =
     sym c.bounds_right.ensures ∙ c.if-not-bounds_right.false in
-    omega (arith, (bounds_told _ (bounded)).count_high)
+    omega (arith, (bounds_told _ bounded).count_high)
 
 pub returns-then-n-f : goal.returns-then-n-f
 unfolding directory_right

@@ -41,7 +41,7 @@ fields_of-requires c =
     let sections : let a = c.args in sections_right a.h.now a.len ≡ true =
     sym c.sections_right.ensures ∙ c.if-not-sections_right.false in
     let a = c.args in
-    omega (arith, (sections_told a.h.now a.len (sections)).directory)
+    omega (arith, (sections_told a.h.now a.len sections).directory)
 
 pub returns : goal.returns
 returns c =

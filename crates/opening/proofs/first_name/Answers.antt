@@ -15,7 +15,7 @@ overflow_add-result c =
     subst (FirstHit a.file.now a.book a.c) c.in-At.is c.first_of.ensures in
     let inside : let e = c.in-At.e in
     e.start + e.len ≤ length c.chunk_bytes-bytes.result.now =
-    rw c.chunk_bytes-bytes.ensures (hit).0 in
+    rw c.chunk_bytes-bytes.ensures hit.0 in
     omega (arith, inside)
 
 pub slice_bounds-result-end-2 : goal.slice_bounds-result-end-2
@@ -26,7 +26,7 @@ slice_bounds-result-end-2 c =
     subst (FirstHit a.file.now a.book a.c) c.in-At.is c.first_of.ensures in
     let inside : let e = c.in-At.e in
     e.start + e.len ≤ length c.chunk_bytes-bytes.result.now =
-    rw c.chunk_bytes-bytes.ensures (hit).0 in
+    rw c.chunk_bytes-bytes.ensures hit.0 in
     omega (arith, inside)
 
 pub returns : goal.returns

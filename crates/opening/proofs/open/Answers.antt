@@ -10,14 +10,14 @@ pub open_chunks-requires : goal.open_chunks-requires
 open_chunks-requires c =
     let head_is : header_of c.args.file.now ≡ Good c.in-Good.book =
     sym c.read.ensures ∙ c.in-Good.is in
-    (header_accepted _ _ (head_is)).count_high
+    (header_accepted _ _ head_is).count_high
 
 pub returns-in-Good : goal.returns-in-Good
 unfolding opened
 returns-in-Good c =
     let head_is : header_of c.args.file.now ≡ Good c.in-Good.book =
     sym c.read.ensures ∙ c.in-Good.is in
-    rw (head_is) c.open_chunks.ensures
+    rw head_is c.open_chunks.ensures
 
 pub returns-in-Refused : goal.returns-in-Refused
 unfolding opened

@@ -22,4 +22,4 @@ returns-in-Listings c =
     let passed : let a = c.args in
     Passed (directory_of a.file.now a.book) a.book.count 0 0 c.in-Listings.n (linked_book a.file.now a.book) =
     survey_passes _ _ _ _ _ _ (sym c.in-Listings.is ∙ c.survey_chunks.ensures) in
-    c.open_links.ensures ∙ sym (passed).on
+    c.open_links.ensures ∙ sym passed.on

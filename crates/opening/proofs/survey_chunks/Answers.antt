@@ -32,7 +32,7 @@ loop-c-preserved-in-Listing c =
     let D = directory_of a.file.now a.book in (
       omega arith,
       omega arith,
-      rw (one_less)
+      rw one_less
           (sym (survey_listing D (a.book.count - c.loop-c.c) c.loop-c.c c.loop-c.listings _ _ (omega arith) (met_is ∙ c.in-Listing.is)) ∙ c.loop-c.invariant.2),
     )
 
@@ -49,7 +49,7 @@ loop-c-preserved c =
     let D = directory_of a.file.now a.book in (
       omega arith,
       omega arith,
-      rw (one_less)
+      rw one_less
           (sym (survey_index D (a.book.count - c.loop-c.c) c.loop-c.c c.loop-c.listings (omega arith) (met_is ∙ c.in-Index.is)) ∙ c.loop-c.invariant.2),
     )
 

@@ -24,7 +24,7 @@ returns-in-At c =
     let finding_is : (h : Hit) → c.find-found.result.hit ≡ h → let a = c.args in
     finding_of a.file.now a.book a.c c.find-found.result.count h ≡ finding_in a.file.now a.book a.name.now a.c =
     λ h q. let a = c.args in
-    ap₂ (finding_of a.file.now a.book a.c) (sym (ap (λ (r : CountedHit). r.count) (found_is))) (sym (ap (λ (r : CountedHit). r.hit) (found_is) ∙ q)) in
+    ap₂ (finding_of a.file.now a.book a.c) (sym (ap (λ (r : CountedHit). r.count) found_is)) (sym (ap (λ (r : CountedHit). r.hit) found_is ∙ q)) in
     ap (λ (x : Report). Finding.Found c.find-found.result.count x) c.report_of.ensures ∙ finding_is (At _) c.in-At.is
 
 pub returns-in-Nothing : goal.returns-in-Nothing
@@ -39,5 +39,5 @@ returns-in-Nothing c =
     let finding_is : (h : Hit) → c.find-found.result.hit ≡ h → let a = c.args in
     finding_of a.file.now a.book a.c c.find-found.result.count h ≡ finding_in a.file.now a.book a.name.now a.c =
     λ h q. let a = c.args in
-    ap₂ (finding_of a.file.now a.book a.c) (sym (ap (λ (r : CountedHit). r.count) (found_is))) (sym (ap (λ (r : CountedHit). r.hit) (found_is) ∙ q)) in
+    ap₂ (finding_of a.file.now a.book a.c) (sym (ap (λ (r : CountedHit). r.count) found_is)) (sym (ap (λ (r : CountedHit). r.hit) found_is ∙ q)) in
     finding_is Nothing c.in-Nothing.is

@@ -14,7 +14,7 @@ returns-in-Found c =
     Linked a.file.now a.book a.c c.in-Listing.field-0 c.in-Listing.next =
     checked_listing _ _ _ _ _ (sym c.checked_chunk.ensures ∙ c.in-Listing.is) in
     let a = c.args in
-    search_found a.file.now a.book a.name.now a.c (linked_is).below _ _ (sym c.find_in.ensures ∙ c.in-Found.is)
+    search_found a.file.now a.book a.name.now a.c linked_is.below _ _ (sym c.find_in.ensures ∙ c.in-Found.is)
 
 pub returns-in-Nothing : goal.returns-in-Nothing
 returns-in-Nothing c =
@@ -22,4 +22,4 @@ returns-in-Nothing c =
     Linked a.file.now a.book a.c c.in-Listing.field-0 c.in-Listing.next =
     checked_listing _ _ _ _ _ (sym c.checked_chunk.ensures ∙ c.in-Listing.is) in
     let a = c.args in
-    search_next a.file.now a.book a.name.now a.c (linked_is).below _ _ (linked_is).next_is (sym c.find_in.ensures ∙ c.in-Nothing.is)
+    search_next a.file.now a.book a.name.now a.c linked_is.below _ _ linked_is.next_is (sym c.find_in.ensures ∙ c.in-Nothing.is)
