@@ -22,7 +22,7 @@ left_more limits s end n i at es l e =
     let q : n - i ≡ suc (n - (i + 1)) = omega arith in
     let m = entries_more limits Listing s end (n - (i + 1)) at (drop i es) (rw q at e) in
     let r : drop (i + 1) es ≡ m.1 = sym (drop-drop 1 i es) ∙ ap (drop 1) m.3 in
-    (m.0, m.2, m.3 ∙ ap (λ xs. entry_of s m.0 ∷ xs) (sym r), m.4 ∙ ap all (sym r))
+    (m.0, m.2, rw r m.3, rw r m.4)
 
 -- each takes a byte at least
 entries_fit : (limits : Limits) (s : List ℕ) (end n at : ℕ) (es : List Entry) → entries_at limits Listing s end n at ≡ all es → at ≤ length s → at + n ≤ length s
