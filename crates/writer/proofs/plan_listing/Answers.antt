@@ -1,5 +1,4 @@
-use Rattle.fields.proofs.Base.{◌≡◌, sym, ◌∙◌, [], ◌<◌, arith, now}
-use Rattle.fields.proofs.Tests.{held, failed}
+use Rattle.fields.proofs.Base.{◌≡◌, sym, ◌∙◌, [], ◌<◌, arith}
 use Rattle.entries.specs.Entry.{listing_at}
 use Rattle.entries.specs.declared.Kind.TheVariants.{Listing}
 use Rattle.entries.proofs.Laws.{listing_inside}
@@ -16,18 +15,12 @@ returns-then-input-eq0 c = passes_empty _ _ c.if-input-eq0.true
 pub loop-e-init : goal.loop-e-init
 loop-e-init c = reading_start _ _ _ _ c.if-input-eq0.false
 
-pub shape_of-starts-then-at-input : goal.shape_of-starts-then-at-input
-shape_of-starts-then-at-input c = c.loop-e.invariant.kept
-
 pub returns-then-at-input : goal.returns-then-at-input
 returns-then-at-input c =
     let end_is : let a = c.args in
     ahead a.content a.input.now c.loop-e.left c.loop-e.at ≡ [] =
     run_end _ _ _ (sym c.given_at.ensures ∙ c.in_default.is) in
     reading_end _ _ _ _ _ _ _ _ _ _ c.loop-e.invariant (end_is) c.if-at-input.true
-
-pub shape_of-starts-in_default : goal.shape_of-starts-in_default
-shape_of-starts-in_default c = c.loop-e.invariant.kept
 
 pub returns-in_default : goal.returns-in_default
 returns-in_default c =
@@ -42,9 +35,6 @@ overflow_sub-e c =
     Stepped c.loop-e.left (listing_at a.content a.input.now c.loop-e.at) c.in-Good.e =
     taken_entry _ _ _ (sym c.given_at.ensures ∙ c.in-Good.is) in
     let i = listing_inside _ _ _ _ (read_is).item in omega (arith, i.moves, i.same)
-
-pub shape_of-starts-then-e-size : goal.shape_of-starts-then-e-size
-shape_of-starts-then-e-size c = c.loop-e.invariant.kept
 
 pub returns-then-e-size : goal.returns-then-e-size
 returns-then-e-size c =
@@ -62,15 +52,12 @@ rises-requires c =
     taken_entry _ _ _ (sym c.given_at.ensures ∙ c.in-Good.is) in
     (c.loop-e.invariant.named, (listing_inside _ _ _ _ (read_is).item).name)
 
-pub shape_of-starts-then-not-rises : goal.shape_of-starts-then-not-rises
-shape_of-starts-then-not-rises c = c.loop-e.invariant.kept
-
 pub returns-then-not-rises : goal.returns-then-not-rises
 returns-then-not-rises c =
     let read_is : let a = c.args in
     Stepped c.loop-e.left (listing_at a.content a.input.now c.loop-e.at) c.in-Good.e =
     taken_entry _ _ _ (sym c.given_at.ensures ∙ c.in-Good.is) in
-    reading_falls _ _ _ _ _ _ _ _ _ _ c.loop-e.invariant _ (read_is).some (read_is).item (failed c.rises.ensures c.if-not-rises.true)
+    reading_falls _ _ _ _ _ _ _ _ _ _ c.loop-e.invariant _ (read_is).some (read_is).item (sym c.rises.ensures ∙ c.if-not-rises.true)
 
 pub add-f-requires : goal.add-f-requires
 add-f-requires c =
@@ -107,4 +94,4 @@ loop-e-preserved c =
     let sized : c.entry_size-size.result ≡ row_size Listing c.in-Good.e =
     c.entry_size-size.ensures ∙ size_row _ _ (listing_inside _ _ _ _ (read_is).item).short in
     let i = read_is in
-    reading_turn _ _ _ _ _ _ _ _ _ _ c.loop-e.invariant _ i.some i.item _ (sized) c.if-e-size.false (held c.rises.ensures c.if-not-rises.false) _ _ c.add-f.ensures.0 c.add-f.ensures.1
+    reading_turn _ _ _ _ _ _ _ _ _ _ c.loop-e.invariant _ i.some i.item _ (sized) c.if-e-size.false (sym c.rises.ensures ∙ c.if-not-rises.false) _ _ c.add-f.ensures.0 c.add-f.ensures.1
