@@ -2,27 +2,26 @@ use Rattle.fields.proofs.Base.{sym, ◌∙◌, true, arith}
 use Rattle.pack.proofs.Levels.{chunks_given}
 use Rattle.writer.specs.Plan.{ListingLevel}
 use Rattle.writer.proofs.Shaping.{first_over, shaping_start, shaping_end, shaping_deep, shaping_over, shaping_turn}
+use Rattle.writer.proofs.plan.Goals.{In-Count}
 use Rattle.writer.proofs.plan.Goals as goal
+
+-- the listing level
+listed : (c : In-Count) → ListingLevel c.args.content c.args.input.now c.args.n c.args.starts.now c.plan_listing.new.starts c.in-Count.m
+listed c = rw c.in-Count.is at c.plan_listing.ensures
 
 pub returns-in_default : goal.returns-in_default
 returns-in_default c = rw c.in_default.is at c.plan_listing.ensures
 
 pub returns-then-starts-m : goal.returns-then-starts-m
 returns-then-starts-m c =
-    let listed : let a = c.args in
-    ListingLevel a.content a.input.now a.n a.starts.now c.plan_listing.new.starts c.in-Count.m =
-    rw c.in-Count.is at c.plan_listing.ensures in
-    let l = listed in
+    let l = listed (goal.at.returns-then-starts-m c).In-Count in
     let k = c.plan_listing.auto.starts in
     let s = c.requires in
     (l.right, first_over _ _ _ _ _ _ _ s k l (chunks_given _ _ _ _) (omega (arith, k, s, c.if-starts-m.true)))
 
 pub loop-end-init : goal.loop-end-init
 loop-end-init c =
-    let listed : let a = c.args in
-    ListingLevel a.content a.input.now a.n a.starts.now c.plan_listing.new.starts c.in-Count.m =
-    rw c.in-Count.is at c.plan_listing.ensures in
-    let l = listed in
+    let l = listed (goal.at.loop-end-init c).In-Count in
     let k = c.plan_listing.auto.starts in
     let s = c.requires in
     (l.right, shaping_start _ _ _ _ _ _ _ s k l (chunks_given _ _ _ _) (omega (arith, k, s, c.if-starts-m.false)))
