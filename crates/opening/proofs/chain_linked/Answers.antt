@@ -30,14 +30,14 @@ returns-then-c-last c =
     let a = c.args in
     let l = c.loop-left in
     rw (ne_eqb _ _ c.if-c-last.true)
-        at (linked (directory_of a.file.now a.book) (shape_of a.book) l.left l.previous l.c _ _ _ c.loop-left-test.true c.link_from.ensures c.in-Last.is l.invariant)
+    at (linked (directory_of a.file.now a.book) (shape_of a.book) l.left l.previous l.c _ _ _ c.loop-left-test.true c.link_from.ensures c.in-Last.is l.invariant)
 
 pub returns-in-Last : goal.returns-in-Last
 returns-in-Last c =
     let a = c.args in
     let l = c.loop-left in
     rw (eq-eqb _ _ c.if-c-last.false)
-        at (linked (directory_of a.file.now a.book) (shape_of a.book) l.left l.previous l.c _ _ _ c.loop-left-test.true c.link_from.ensures c.in-Last.is l.invariant)
+    at (linked (directory_of a.file.now a.book) (shape_of a.book) l.left l.previous l.c _ _ _ c.loop-left-test.true c.link_from.ensures c.in-Last.is l.invariant)
 
 pub loop-left-preserved : goal.loop-left-preserved
 loop-left-preserved c =
