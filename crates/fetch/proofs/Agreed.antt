@@ -34,7 +34,7 @@ module _ (s : List ℕ) (book : Record) (name : List ℕ) (accepts : opened s �
 
 -- the clauses of `fetch`
 abbrev pub Promised : List ℕ → Record → List ℕ → Reply → Type 0
-Promised s book name r = (r ≡ fetched s book name) × (SameAsLookup s book name r × FoundStands s name r)
+Promised s book name r = record { answer : r ≡ fetched s book name; agrees : SameAsLookup s book name r; stands : FoundStands s name r }
 
 pub promised : (s : List ℕ) (book : Record) (name : List ℕ) (r : Reply) → r ≡ fetched s book name → Promised s book name r
-promised s book name r p = (p, (λ o places h. p ∙ fetched_same s book name o places h, λ x q. fetched_stands s book name x (sym p ∙ q)))
+promised s book name r p = record { answer = p; agrees = λ o places h. p ∙ fetched_same s book name o places h; stands = λ x q. fetched_stands s book name x (sym p ∙ q) }

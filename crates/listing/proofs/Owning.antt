@@ -93,5 +93,5 @@ module _ (s : List ℕ) (bytes : (i : ℕ) → get_or s i 0 < 256) (book : Recor
       fits false f = none_beside _ (step_unfit s book at f) tt (own_unfit s book at f)
 
   -- an answer that is the own bytes
-  pub owned_answer : (r : Owned) → r ≡ owned_at s book at → (r ≡ owned_at s book at) × OwnBeside s (stepped s book at) r
-  owned_answer r e = (e, subst (OwnBeside s (stepped s book at)) (sym e) own_beside)
+  pub owned_answer : (r : Owned) → r ≡ owned_at s book at → record { bytes : r ≡ owned_at s book at; beside : OwnBeside s (stepped s book at) r }
+  owned_answer r e = record { bytes = e; beside = subst (OwnBeside s (stepped s book at)) (sym e) own_beside }

@@ -16,16 +16,16 @@ use Rattle.book.proofs.Read.{entries_length}
 module _ (s : List ℕ) (book : Record) (c : ℕ) (t : List ℕ) where
   -- the answer r, and the lent slice as it is then
   abbrev pub Answers : Page → List ℕ → Type 0
-  Answers r u = (r ≡ page_of s book c (length t)) × (u ≡ page_in s book c t)
+  Answers r u = record { answer : r ≡ page_of s book c (length t); written : u ≡ page_in s book c t }
 
   pub page_unfit : record_fits s book ≡ false → Answers (Refused (refusal_of 17)) t
   unfolding page_of page_in can_list
-  page_unfit f = (rw f, rw f)
+  page_unfit f = record { answer = rw f; written = rw f }
 
   module _ (f : record_fits s book ≡ true) where
     pub page_other : listing_chunk (directory_of s book) (shape_of book) c ≡ false → Answers (Refused (refusal_of 17)) t
     unfolding page_of page_in can_list
-    page_other h = (rw (f, h), rw (f, h))
+    page_other h = record { answer = rw (f, h); written = rw (f, h) }
 
     module _ (h : listing_chunk (directory_of s book) (shape_of book) c ≡ true) (n : ℕ) (z : n ≡ entry_count (chunk_bytes s book c)) where
       count_right : length (entries_in (directory_of s book c)) ≡ n
@@ -35,11 +35,11 @@ module _ (s : List ℕ) (book : Record) (c : ℕ) (t : List ℕ) where
       unfolding page_of page_in can_list has_room
       page_short l =
           let r = lt-leb (5 * n) (length t) l in
-          (rw (f, h, count_right, r), rw (f, h, count_right, r))
+          record { answer = rw (f, h, count_right, r); written = rw (f, h, count_right, r) }
 
       pub page_done : 5 * n ≤ length t → (next : ℕ) → next_of (directory_of s book c) ≡ next
           → (u : List ℕ) → u ≡ sets t 0 (numbers_of (reports_in s book c)) → Answers (Entries n next) u
       unfolding page_of page_in can_list has_room
       page_done l next q u e =
           let r = le-leb (5 * n) (length t) l in
-          (rw (f, h, count_right, r, q), rw (f, h, count_right, r) e)
+          record { answer = rw (f, h, count_right, r, q); written = rw (f, h, count_right, r) e }

@@ -27,10 +27,10 @@ engines_agree s book name accepts places h =
 
 -- the clauses of `scan`
 abbrev pub Promised : List ℕ → Record → List ℕ → Reply → Type 0
-Promised s book name r = (r ≡ scanned s book name) × (SameAsLookup s book name r × CompleteOnChain s book name r)
+Promised s book name r = record { answer : r ≡ scanned s book name; agrees : SameAsLookup s book name r; complete : CompleteOnChain s book name r }
 
 pub promised : (s : List ℕ) (book : Record) (name : List ℕ) (r : Reply) → r ≡ scanned s book name → Promised s book name r
-promised s book name r p = (p, (λ o places h. p ∙ engines_agree s book name o places h, rw p (scan_complete s book name)))
+promised s book name r p = record { answer = p; agrees = λ o places h. p ∙ engines_agree s book name o places h; complete = rw p (scan_complete s book name) }
 
 -- ---- a refusal
 

@@ -9,4 +9,5 @@ returns-in-Book c = let a = c.args in
 
 pub returns-in-Refused : goal.returns-in-Refused
 returns-in-Refused c = let a = c.args in
-    refused_batch a.file.now a.names.now a.answers.now c.in-Refused.r (sym c.open.ensures ∙ c.in-Refused.is)
+    let r = refused_batch a.file.now a.names.now a.answers.now c.in-Refused.r (sym c.open.ensures ∙ c.in-Refused.is) in
+    record { answer = r.0; answers = r.1 }

@@ -10,15 +10,16 @@ use Rattle.compare.proofs.Compared.{books_compared}
 use Rattle.compare.proofs.start.Goals as goal
 
 promised : (one two : Record) (at : Cursor) → at ≡ compare_start one two
-    → (at ≡ compare_start one two) × (((s₁ s₂ : List ℕ) → ComparisonExact s₁ one s₂ two at)
-    × ((s₁ s₂ : List ℕ) → opened s₁ ≡ Book one → opened s₂ ≡ Book two → BooksCompared s₁ one s₂ two at))
-promised one two at e = (
-  e,
-  (
-    (λ s₁ s₂. subst (ComparisonExact s₁ one s₂ two) (sym e) (comparison_exact s₁ one s₂ two)),
-    λ s₁ s₂ o₁ o₂. subst (BooksCompared s₁ one s₂ two) (sym e) (books_compared s₁ one s₂ two o₁ o₂),
-  ),
-)
+    → record {
+      answer : at ≡ compare_start one two;
+      exact : (s₁ s₂ : List ℕ) → ComparisonExact s₁ one s₂ two at;
+      opened : (s₁ s₂ : List ℕ) → opened s₁ ≡ Book one → opened s₂ ≡ Book two → BooksCompared s₁ one s₂ two at;
+    }
+promised one two at e = record {
+  answer = e;
+  exact = λ s₁ s₂. subst (ComparisonExact s₁ one s₂ two) (sym e) (comparison_exact s₁ one s₂ two);
+  opened = λ s₁ s₂ o₁ o₂. subst (BooksCompared s₁ one s₂ two) (sym e) (books_compared s₁ one s₂ two o₁ o₂);
+}
 
 pub returns : goal.returns
 returns c = promised _ _ _ (rw (c.start-first.ensures.answer, c.start-second.ensures.answer))

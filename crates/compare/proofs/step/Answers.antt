@@ -18,11 +18,17 @@ use Rattle.compare.proofs.step.Goals as goal
 
 -- a step has what its contract says beside the equation
 promised : (s₁ : List ℕ) (b₁ : Record) (s₂ : List ℕ) (b₂ : Record) (at : Cursor) (x : Step) → x ≡ compare_step s₁ b₁ s₂ b₂ at
-    → (x ≡ compare_step s₁ b₁ s₂ b₂ at) × (Lighter (load at) x
-    × (opened s₁ ≡ Book b₁ → opened s₂ ≡ Book b₂ → (n : ℕ) → at ≡ after_steps s₁ b₁ s₂ b₂ n (compare_start b₁ b₂) → (k : ℕ) (r : Refusal) → x ≢ Refused k r))
+    → record {
+      answer : x ≡ compare_step s₁ b₁ s₂ b₂ at;
+      ends : Lighter (load at) x;
+      opened : opened s₁ ≡ Book b₁ → opened s₂ ≡ Book b₂ → (n : ℕ) → at ≡ after_steps s₁ b₁ s₂ b₂ n (compare_start b₁ b₂) → (k : ℕ) (r : Refusal) → x ≢ Refused k r;
+    }
 promised s₁ b₁ s₂ b₂ at x e =
-    let light = subst (Lighter (load at)) (sym e) (step_falls s₁ b₁ s₂ b₂ at) in
-    (e, (light, λ o₁ o₂ n q k r h. (books_compared s₁ b₁ s₂ b₂ o₁ o₂).never_refused n k r (sym (ap (compare_step s₁ b₁ s₂ b₂) q) ∙ sym e ∙ h)))
+    record {
+      answer = e;
+      ends = subst (Lighter (load at)) (sym e) (step_falls s₁ b₁ s₂ b₂ at);
+      opened = λ o₁ o₂ n q k r h. (books_compared s₁ b₁ s₂ b₂ o₁ o₂).never_refused n k r (sym (ap (compare_step s₁ b₁ s₂ b₂) q) ∙ sym e ∙ h);
+    }
 
 pub loop-step-init : goal.loop-step-init
 loop-step-init c = refl

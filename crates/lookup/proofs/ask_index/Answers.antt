@@ -1,26 +1,15 @@
-use Rattle.fields.proofs.Base.{◌≡◌, refl, sym, ◌∙◌, true, inl, inr, [], ◌∷◌}
-use types.Run.{OneOf}
-use denote.Enum.Declared.{tag_of}
-use Rattle.chunk.specs.declared.Chunk.{Chunk}
-use Rattle.chunk.specs.declared.Chunk.TheVariants.{Refused, Listing, Index}
-use Rattle.chunk.specs.contracts.Chunk as chunk-type
+use Rattle.fields.proofs.Base.{◌≡◌, sym, ◌∙◌, true}
 use Rattle.tree.specs.Shape.{index_chunk}
 use Rattle.book.specs.Book.{directory_of, shape_of}
 use Rattle.book.proofs.Checked.{checked_index, checked_no_index}
 use Rattle.lookup.proofs.Steps.{index_barred, index_down, index_ends}
 use Rattle.lookup.proofs.ask_index.Goals as goal
 
--- TODO
-other_kind : (x : Chunk) → (x ≡ Index → ⊥) → OneOf (0 ∷ 1 ∷ []) (tag_of chunk-type.the_type x)
-other_kind (Refused n) h = inl refl
-other_kind (Listing p n) h = inr refl
-other_kind Index h = absurd (h refl)
-
 pub returns-in_default : goal.returns-in_default
 returns-in_default c = let a = c.args in
     let s = a.file.now in
     index_barred s a.book a.name.now a.c
-    (checked_no_index s a.book a.c c.checked_chunk.result c.checked_chunk.ensures (other_kind c.checked_chunk.result c.in_default.not-Index))
+    (checked_no_index s a.book a.c c.checked_chunk.result c.checked_chunk.ensures c.in_default.not-Index)
 
 pub returns-in-Below : goal.returns-in-Below
 returns-in-Below c =

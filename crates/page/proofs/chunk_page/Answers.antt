@@ -9,7 +9,7 @@ use Rattle.page.proofs.chunk_page.Goals as goal
 pub returns-then-not-record_fits : goal.returns-then-not-record_fits
 returns-then-not-record_fits c = let a = c.args in
     let r = page_unfit a.file.now a.book a.chunk a.out.now (sym c.record_fits.ensures ∙ c.if-not-record_fits.true) in
-    record { answer = ap Refused c.refuse.ensures ∙ r.0; written = r.1 }
+    record { answer = ap Refused c.refuse.ensures ∙ r.answer; written = r.written }
 
 pub returns-in-Index : goal.returns-in-Index
 returns-in-Index c =
@@ -18,7 +18,7 @@ returns-in-Index c =
     let a = c.args in
     let o = (checked_index a.file.now a.book a.chunk (sym c.checked_chunk.ensures ∙ c.in-Index.is)).1 in
     let r = page_other a.file.now a.book a.chunk a.out.now (fits_is) o in
-    record { answer = ap Refused c.refuse-in-Index.ensures ∙ r.0; written = r.1 }
+    record { answer = ap Refused c.refuse-in-Index.ensures ∙ r.answer; written = r.written }
 
 pub returns-in-Refused : goal.returns-in-Refused
 returns-in-Refused c =
@@ -27,7 +27,7 @@ returns-in-Refused c =
     let a = c.args in
     let o = (checked_refused a.file.now a.book a.chunk _ (sym c.checked_chunk.ensures ∙ c.in-Refused.is)).1 in
     let r = page_other a.file.now a.book a.chunk a.out.now (fits_is) o in
-    record { answer = ap Refused c.refuse-in-Refused.ensures ∙ r.0; written = r.1 }
+    record { answer = ap Refused c.refuse-in-Refused.ensures ∙ r.answer; written = r.written }
 
 pub returns-then-out-total : goal.returns-then-out-total
 returns-then-out-total c =

@@ -13,7 +13,7 @@ returns-then-not-record_fits c = let a = c.args in
 
 pub returns-in_default : goal.returns-in_default
 returns-in_default c = let a = c.args in
-    owned_answer a.file.now (λ j. (c.type_inv.file j).fits) a.book a.self _ (sym (own_other _ _ _ (checked_no_listing a.file.now a.book a.self.chunk c.checked_chunk.result c.checked_chunk.ensures c.in_default.keys2)))
+    owned_answer a.file.now (λ j. (c.type_inv.file j).fits) a.book a.self _ (sym (own_other _ _ _ (checked_no_listing a.file.now a.book a.self.chunk c.checked_chunk.result c.checked_chunk.ensures c.in_default.not-Listing)))
 
 pub returns-in-At : goal.returns-in-At
 returns-in-At c =

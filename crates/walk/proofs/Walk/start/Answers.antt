@@ -6,8 +6,8 @@ use Rattle.walk.specs.declared.Walk.{Walk}
 use Rattle.walk.proofs.Standing.{walk_exact}
 use Rattle.walk.proofs.Walk.start.Goals as goal
 
-promised : (book : Record) (w : Walk) → w ≡ walk_start book → (w ≡ walk_start book) × ((s : List ℕ) → WalkExact s book w)
-promised book w e = (e, λ s. subst (WalkExact s book) (sym e) (walk_exact s book))
+promised : (book : Record) (w : Walk) → w ≡ walk_start book → record { answer : w ≡ walk_start book; exact : (s : List ℕ) → WalkExact s book w }
+promised book w e = record { answer = e; exact = λ s. subst (WalkExact s book) (sym e) (walk_exact s book) }
 
 pub returns : goal.returns
 unfolding walk_start
