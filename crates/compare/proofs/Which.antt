@@ -119,6 +119,7 @@ difference_in (q ∷ ps) p =
 
 in_difference : (ps : List Pair) (p : Pair) → In p ps → is_same p ≡ false → In p (differences ps)
 unfolding differences
+in_difference [] p i f = elim i [ ]
 in_difference (q ∷ ps) p (inl e) f = let g : is_same q ≡ false = rw e at f in rw g (inl e)
 in_difference (q ∷ ps) p (inr i) f = on_test (is_same q) (λ t. rw t (in_difference ps p i f)) (λ t. rw t (inr (in_difference ps p i f)))
 

@@ -31,5 +31,5 @@ returns c =
     let count_is : All c.in-All.n ≡ counted_as 0 (names_in c.args.names.now) =
     sym c.in-All.is ∙ c.count_names.ensures in
     let a = c.args in
-    let r = in_done a.file.now a.book a.names.now a.answers.now _ (count_is) c.put_results.new.answers c.if-answers-n.false c.put_results.ensures in
+    let r = in_done a.file.now a.book a.names.now a.answers.now _ (count_is) c.put_results.new.out c.if-answers-n.false c.put_results.ensures in
     record { answer = r.0; answers = r.1 }

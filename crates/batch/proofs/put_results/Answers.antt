@@ -79,7 +79,7 @@ loop-at-preserved c =
     sym c.asked_at.ensures ∙ c.in-Value.is in
     let a = c.args in
     left_turn a.file.now a.book a.names.now a.out.now c.loop-at.out c.loop-at.at c.loop-at.to c.loop-at.invariant c.loop-at-test.true _ _ (read_is) _
-    (c.put_result.ensures ∙ ap (λ r. sets c.loop-at.out c.loop-at.to (result_of c⟨After-asked-at⟩)) (simp add-sub_cancel_left at c.fetch.ensures.answer))
+    (c.put_result.ensures ∙ ap (λ r. sets c.loop-at.out c.loop-at.to (result_of r)) (simp add-sub_cancel_left at c.fetch.ensures.answer))
 
 pub returns : goal.returns
 returns c = let a = c.args in

@@ -53,6 +53,6 @@ returns c =
     let a = c.args in
     let d = checked_listing a.file.now a.book a.w.next _ _ (met_is) in
     ap (λ (i : ℕ). Inside (record { chunk = a.w.next; at = i; left = c.entry_count-left.result; next = c.in-Listing.next; more = a.w.more - 1 })) c.first_place-at.ensures
-    ∙ ap₂ (λ (c⟨After-entry-count⟩ k : ℕ). Inside (record { chunk = a.w.next; at = first_place Kind.Listing; left = c⟨After-entry-count⟩; next = k; more = a.w.more - 1 }))
+    ∙ ap₂ (λ (n k : ℕ). Inside (record { chunk = a.w.next; at = first_place Kind.Listing; left = n; next = k; more = a.w.more - 1 }))
     (count_is ∙ sym (entries_length a.file.now a.book a.w.next d.kind)) (sym d.next_is)
     ∙ sym (enter_chunk a.file.now a.book a.w c.if-w-gt0.false (on) (omega arith) d.below)
