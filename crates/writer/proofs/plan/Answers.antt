@@ -1,4 +1,4 @@
-use Rattle.fields.proofs.Base.{sym, ◌∙◌, true, arith}
+use Rattle.fields.proofs.Base.{arith}
 use Rattle.pack.proofs.Levels.{chunks_given}
 use Rattle.writer.specs.Plan.{ListingLevel}
 use Rattle.writer.proofs.Shaping.{first_over, shaping_start, shaping_end, shaping_deep, shaping_over, shaping_turn}

@@ -1,4 +1,4 @@
-use Rattle.fields.proofs.Base.{◌≡◌, sym, ◌∙◌, [], ◌<◌, arith}
+use Rattle.fields.proofs.Base.{◌≡◌, sym, ◌∙◌, [], arith}
 use Rattle.entries.specs.Entry.{listing_at}
 use Rattle.entries.specs.declared.Kind.TheVariants.{Listing}
 use Rattle.entries.proofs.Laws.{listing_inside}
