@@ -4,7 +4,8 @@
 
 use chunk::Chunk;
 use entries::Limits;
-use libc::STDOUT_FILENO;
+use std::env::Env;
+use std::io;
 
 // The number that decimal digits spell, as far as it stays below 1,000,000,000.
 fn spelled(text: &[u8]) -> u32 {
@@ -50,18 +51,17 @@ fn count_good(buf: &mut [u8], times: u32) -> u32 {
     };
     let mut done: u32 = 0;
     for i in 0..times {
-        done = std::num::wrapping_add_u32(done, good(buf, limits));
+        done = done.wrapping_add(good(buf, limits));
         touch(buf, (i % 256) as u8);
     }
     done
 }
 
-fn main() {
+fn main(rt: HostRuntime) -> io::Result<()> {
     let mut word = [0u8; 16];
-    let n = os::arg(1, &mut word);
+    let n = rt.arg(1, &mut word).unwrap_or(0);
     let times = spelled(&word[..n]);
-    let mut buf = io::buffer();
-    io::read_full(0, &mut buf);
-    io::print_decimal(STDOUT_FILENO, count_good(&mut buf, times) as u64);
-    io::write_all(STDOUT_FILENO, b"\n");
+    let mut buf = [0u8; 4096];
+    input::fill(&mut rt.stdin(), &mut buf)?;
+    println!(rt; "{}", count_good(&mut buf, times))
 }

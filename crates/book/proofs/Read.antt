@@ -15,14 +15,17 @@ use Rattle.book.specs.Book.{limits_of, chunk_bytes, directory_of}
 
 -- ---- entries that are left: those from entry i on
 
+rest_is : (i : ℕ) (es : List Entry) (e : Entry) (ds : List Entry) → drop i es ≡ e ∷ ds → drop (i + 1) es ≡ ds
+rest_is i es e ds q = sym (drop-drop 1 i es) ∙ ap (drop 1) q
+
 pub left_more : (limits : Limits) (s : List ℕ) (end n i at : ℕ) (es : List Entry) → i < n → entries_at limits Listing s end (n - i) at ≡ all (drop i es)
     → (p : Place) × (item_at limits Listing s at ≡ Good p) × (drop i es ≡ entry_of s p ∷ drop (i + 1) es)
     × (entries_at limits Listing s end (n - (i + 1)) p.next ≡ all (drop (i + 1) es))
 left_more limits s end n i at es l e =
     let q : n - i ≡ suc (n - (i + 1)) = omega arith in
     let m = entries_more limits Listing s end (n - (i + 1)) at (drop i es) (rw q at e) in
-    let r : drop (i + 1) es ≡ m.1 = sym (drop-drop 1 i es) ∙ ap (drop 1) m.3 in
-    (m.0, m.2, m.3 ∙ ap (λ xs. entry_of s m.0 ∷ xs) (sym r), m.4 ∙ ap all (sym r))
+    let r : drop (i + 1) es ≡ m.1 = rest_is i es (entry_of s m.0) m.1 m.3 in
+    (m.0, m.2, rw r m.3, rw r m.4)
 
 -- each takes a byte at least
 entries_fit : (limits : Limits) (s : List ℕ) (end n at : ℕ) (es : List Entry) → entries_at limits Listing s end n at ≡ all es → at ≤ length s → at + n ≤ length s

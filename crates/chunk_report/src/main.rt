@@ -5,100 +5,94 @@
 
 use chunk::Chunk;
 use entries::{Kind, Limits};
-use libc::STDOUT_FILENO;
 use quickref::Hit;
 use seek::Child;
+use std::io;
+use std::io::Write;
 
-fn number(n: u64) {
-    io::write_all(STDOUT_FILENO, b" ");
-    io::print_decimal(STDOUT_FILENO, n);
+fn number<W: Write>(out: &mut W, n: u64) -> io::Result<()> {
+    write!(out, " {n}")
 }
 
-fn place(h: Hit) {
+fn place<W: Write>(out: &mut W, h: Hit) -> io::Result<()> {
     match h {
-        Hit::At(e) => number(e.at as u64),
-        Hit::Nothing => {
-            io::write_all(STDOUT_FILENO, b" -");
-        }
+        Hit::At(e) => number(out, e.at as u64),
+        Hit::Nothing => write!(out, " -"),
     }
 }
 
-fn child(d: Child) {
+fn child<W: Write>(out: &mut W, d: Child) -> io::Result<()> {
     match d {
-        Child::Below(n) => number(n),
-        Child::Nowhere => {
-            io::write_all(STDOUT_FILENO, b" -");
-        }
+        Child::Below(n) => number(out, n),
+        Child::Nowhere => write!(out, " -"),
     }
 }
 
-fn sought(c: &[u8], limits: Limits, kind: Kind, name: &[u8]) {
+fn sought<W: Write>(
+    out: &mut W,
+    c: &[u8],
+    limits: Limits,
+    kind: Kind,
+    name: &[u8],
+) -> io::Result<()> {
     match kind {
-        Kind::Listing => {
-            let found = seek::find(c, limits, name);
-            let hit = found.hit;
-            place(hit);
-        }
-        Kind::Index => {
-            let chosen = seek::choose(c, limits, name);
-            let below = chosen.child;
-            child(below);
-        }
+        Kind::Listing => place(out, seek::find(c, limits, name).hit),
+        Kind::Index => child(out, seek::choose(c, limits, name).child),
     }
 }
 
-fn searches(c: &[u8], limits: Limits, kind: Kind) {
-    io::write_all(STDOUT_FILENO, b" :");
-    place(quickref::first_entry(c, limits, kind));
-    place(quickref::nth_entry(c, limits, kind, 4));
-    place(quickref::nth_entry(c, limits, kind, 5));
-    place(quickref::nth_entry(c, limits, kind, 9));
-    place(quickref::nth_entry(c, limits, kind, 10));
-    place(quickref::nth_entry(c, limits, kind, 65535));
-    place(quickref::last_entry(c, limits, kind));
-    io::write_all(STDOUT_FILENO, b" :");
-    sought(c, limits, kind, b"/");
-    sought(c, limits, kind, b"/000");
-    sought(c, limits, kind, b"/005XX");
-    sought(c, limits, kind, b"/005");
-    sought(c, limits, kind, b"/9");
-    sought(c, limits, kind, b"/Z");
-    sought(c, limits, kind, b"/a.HTM");
+fn searches<W: Write>(out: &mut W, c: &[u8], limits: Limits, kind: Kind) -> io::Result<()> {
+    write!(out, " :")?;
+    place(out, quickref::first_entry(c, limits, kind))?;
+    place(out, quickref::nth_entry(c, limits, kind, 4))?;
+    place(out, quickref::nth_entry(c, limits, kind, 5))?;
+    place(out, quickref::nth_entry(c, limits, kind, 9))?;
+    place(out, quickref::nth_entry(c, limits, kind, 10))?;
+    place(out, quickref::nth_entry(c, limits, kind, 65535))?;
+    place(out, quickref::last_entry(c, limits, kind))?;
+    write!(out, " :")?;
+    sought(out, c, limits, kind, b"/")?;
+    sought(out, c, limits, kind, b"/000")?;
+    sought(out, c, limits, kind, b"/005XX")?;
+    sought(out, c, limits, kind, b"/005")?;
+    sought(out, c, limits, kind, b"/9")?;
+    sought(out, c, limits, kind, b"/Z")?;
+    sought(out, c, limits, kind, b"/a.HTM")
 }
 
-fn report(c: &[u8], limits: Limits) {
+fn report<W: Write>(out: &mut W, c: &[u8], limits: Limits) -> io::Result<()> {
     match chunk::check(c, limits) {
-        Chunk::Refused(n) => {
-            io::print_decimal(STDOUT_FILENO, n as u64);
-        }
+        Chunk::Refused(n) => write!(out, "{n}")?,
         Chunk::Listing(previous, next) => {
-            io::write_all(STDOUT_FILENO, b"L");
-            number(previous as u64);
-            number(next as u64);
-            number(chunk_fields::entry_count(c) as u64);
-            searches(c, limits, Kind::Listing);
+            write!(out, "L")?;
+            number(out, previous as u64)?;
+            number(out, next as u64)?;
+            number(out, chunk_fields::entry_count(c) as u64)?;
+            searches(out, c, limits, Kind::Listing)?;
         }
         Chunk::Index => {
-            io::write_all(STDOUT_FILENO, b"I");
-            number(chunk_fields::entry_count(c) as u64);
-            searches(c, limits, Kind::Index);
+            write!(out, "I")?;
+            number(out, chunk_fields::entry_count(c) as u64)?;
+            searches(out, c, limits, Kind::Index)?;
         }
     }
-    io::write_all(STDOUT_FILENO, b"\n");
+    writeln!(out)
 }
 
-fn main() {
+fn main(rt: HostRuntime) -> io::Result<()> {
     let limits = Limits {
         density: 2,
         count: 3,
         content: 5,
     };
-    let mut buf = io::buffer();
+    let mut out = rt.stdout();
+    let mut buf = [0u8; 4096];
     for _ in 0..4096u32 {
-        let got = io::read_full(0, &mut buf);
+        let got = input::fill(&mut rt.stdin(), &mut buf)?;
         if got == 0 {
-            return;
+            return Ok(());
         }
-        report(&buf[..got], limits);
+        report(&mut out, &buf[..got], limits)?;
     }
+    Ok(())
 }

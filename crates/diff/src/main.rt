@@ -3,13 +3,18 @@
 // the first before the second, is a line alone: ee, its number in one byte, its chunk in four, highest first.
 #![tactic(auto)]
 
-ghost use Rattle.std.specs.Prelude.{◌≡◌};
+ghost use Rattle.std.specs.Prelude.{◌≡◌, IfOk};
 ghost use Rattle.io.specs.Counts.{IsPrefixLen};
+ghost use Rattle.std.specs.Io.{ReadsAtMost};
 ghost use Rattle.diff.specs.Files.{opened_file};
 ghost use Rattle.diff.specs.Steps.{next_after};
 
 use header::Record;
 use opening::Opened;
+use std::env::Env;
+use std::io::Write;
+use std::rt::Files;
+use std::{fs, io, str};
 use turn::{Cursor, Shown, Step};
 
 // Where the comparison goes on behind a step: at a cursor, or nowhere.
@@ -19,29 +24,29 @@ enum Next {
     Over,
 }
 
-// Whether a file that was read up to here has no more bytes; a read that fails says that it cannot be read.
-fn at_end(fd: i32) -> bool {
-    let mut more = [0u8; 1];
-    libc::read(fd, &mut more) == 0
+// Reads a file into `buf`, as much of it as there is room for.
+fn read_file<R: Files>(rt: &R, path: &str, buf: &mut [u8]) -> io::Result<usize>
+    ensures { ReadsAtMost result buf.new }
+{
+    let mut file = fs::open(rt, path)?;
+    input::fill(&mut file, buf)
 }
 
 // Reads the file that an argument names into `buf`, as much of it as there is room for; no bytes where it cannot be read.
-fn read_named(i: usize, buf: &mut [u8]) -> usize
+fn read_named<R: Env + Files>(rt: &R, i: usize, buf: &mut [u8]) -> usize
     ensures { IsPrefixLen result buf.new }
 {
-    let mut path = io::buffer();
-    let n = os::arg(i, &mut path);
-    let fd = os::open_read(&path[..n]);
-    if fd < 0 {
+    let mut name = [0u8; 4096];
+    let Ok(n) = rt.arg(i, &mut name) else {
         return 0;
+    };
+    let Ok(path) = str::from_utf8(&name[..n]) else {
+        return 0;
+    };
+    match read_file(rt, path, buf) {
+        Ok(got) => got,
+        Err(_) => 0,
     }
-    let got = io::read_full(fd, buf);
-    if got < buf.len() {
-        if !at_end(fd) {
-            return 0;
-        }
-    }
-    got
 }
 
 // Opens a file that was read.
@@ -55,83 +60,94 @@ fn open_file(file: &[u8]) -> Opened
 }
 
 // The digits of an entry's own bytes, as stored.
-fn write_own(file: &[u8], x: Shown) {
+fn write_own<W: Write>(out: &mut W, file: &[u8], x: Shown) -> io::Result<()> {
     let own = x.own;
-    frames::write_digits(content::part(file, own.place, own.length));
+    frames::write_digits(out, content::part(file, own.place, own.length))?;
+    Ok(())
 }
 
-fn write_kind(kind: u8) {
-    frames::write_digits(&[kind]);
+fn write_kind<W: Write>(out: &mut W, kind: u8) -> io::Result<()> {
+    frames::write_digits(out, &[kind])?;
+    Ok(())
 }
 
 // The frame of a step: that of a difference, none at the end.
-fn write_step(file1: &[u8], file2: &[u8], step: Step) -> Next
-    ensures { result ≡ next_after step }
+fn write_step<W: Write>(out: &mut W, file1: &[u8], file2: &[u8], step: Step) -> io::Result<Next>
+    ensures { IfOk result (λ next. next ≡ next_after step) }
 {
     match step {
         Step::First(x, behind) => {
-            write_kind(1);
-            write_own(file1, x);
-            frames::end_frame();
-            Next::At(behind)
+            write_kind(out, 1)?;
+            write_own(out, file1, x)?;
+            frames::end_frame(out)?;
+            Ok(Next::At(behind))
         }
         Step::Second(y, behind) => {
-            write_kind(2);
-            write_own(file2, y);
-            frames::end_frame();
-            Next::At(behind)
+            write_kind(out, 2)?;
+            write_own(out, file2, y)?;
+            frames::end_frame(out)?;
+            Ok(Next::At(behind))
         }
         Step::Changed(x, y, behind) => {
-            write_kind(3);
-            write_own(file1, x);
-            write_own(file2, y);
-            frames::end_frame();
-            Next::At(behind)
+            write_kind(out, 3)?;
+            write_own(out, file1, x)?;
+            write_own(out, file2, y)?;
+            frames::end_frame(out)?;
+            Ok(Next::At(behind))
         }
-        Step::End(_) => Next::Over,
+        Step::End(_) => Ok(Next::Over),
         Step::Refused(_, r) => {
-            frames::write_refusal(r);
-            Next::Over
+            frames::write_refusal(out, r)?;
+            Ok(Next::Over)
         }
     }
 }
 
 // A frame for each difference.
-fn write_differences(file1: &[u8], one: Record, file2: &[u8], two: Record) {
+fn write_differences<W: Write>(
+    out: &mut W,
+    file1: &[u8],
+    one: Record,
+    file2: &[u8],
+    two: Record,
+) -> io::Result<()> {
     let mut at = compare::start(one, two);
     loop {
-        match write_step(file1, file2, compare::step(at, file1, one, file2, two)) {
+        let step = compare::step(at, file1, one, file2, two);
+        match write_step(out, file1, file2, step)? {
             Next::At(behind) => {
                 at = behind;
             }
-            Next::Over => return,
+            Next::Over => return Ok(()),
         }
     }
 }
 
 // The second book, beside the first, which opened.
-fn beside(file1: &[u8], one: Record, file2: &[u8]) {
+fn beside<W: Write>(out: &mut W, file1: &[u8], one: Record, file2: &[u8]) -> io::Result<()> {
     match open_file(file2) {
-        Opened::Book(two) => write_differences(file1, one, file2, two),
+        Opened::Book(two) => write_differences(out, file1, one, file2, two),
         Opened::Refused(r) => {
-            frames::write_refusal(r);
+            frames::write_refusal(out, r)?;
+            Ok(())
         }
     }
 }
 
-fn write_comparison(file1: &[u8], file2: &[u8]) {
+fn write_comparison<W: Write>(out: &mut W, file1: &[u8], file2: &[u8]) -> io::Result<()> {
     match open_file(file1) {
-        Opened::Book(one) => beside(file1, one, file2),
+        Opened::Book(one) => beside(out, file1, one, file2),
         Opened::Refused(r) => {
-            frames::write_refusal(r);
+            frames::write_refusal(out, r)?;
+            Ok(())
         }
     }
 }
 
-fn main() {
+fn main(rt: HostRuntime) -> io::Result<()> {
     let mut first = [0u8; 30001];
     let mut second = [0u8; 30001];
-    let m = read_named(1, &mut first);
-    let n = read_named(2, &mut second);
-    write_comparison(&first[..m], &second[..n]);
+    let m = read_named(&rt, 1, &mut first);
+    let n = read_named(&rt, 2, &mut second);
+    write_comparison(&mut rt.stdout(), &first[..m], &second[..n])
 }

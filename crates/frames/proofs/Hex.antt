@@ -1,5 +1,5 @@
 -- Digits as they are written: those of the bytes that are left make the whole.
-use Rattle.fields.proofs.Base.{◌≡◌, ◌∙◌, sym, ap, refl, List, [], ◌∷◌, ◌++◌, flat_map, ℕ, suc, ◌+◌, ◌*◌, ◌/◌, ◌%◌, ◌-◌, ◌≤◌, ◌<◌, arith, length, get_or, take, drop, set, length-set, length-drop, length-take-le, drop_of_length-le, sets, sets-eq, take-append_seam}
+use Rattle.fields.proofs.Base.{◌≡◌, ◌∙◌, ap, refl, List, [], ◌∷◌, ◌++◌, flat_map, ℕ, suc, ◌+◌, ◌*◌, ◌/◌, ◌%◌, ◌-◌, ◌≤◌, ◌<◌, arith, length, get_or, take, drop, set, length-set, length-drop, length-take-le, drop_of_length-le, sets, sets-eq, take-append_seam}
 use Rattle.fields.proofs.Parts.{drop_more}
 use Rattle.frames.specs.Hex.{hex_digit, hex_of}
 

@@ -4,42 +4,46 @@
 
 use header::Record;
 use opening::Opened;
+use std::io;
+use std::io::Write;
 use walk::{Coming, Walk};
 
 // A frame for each entry, its own bytes as stored.
-fn write_entries(file: &[u8], book: Record) {
+fn write_entries<W: Write>(out: &mut W, file: &[u8], book: Record) -> io::Result<()> {
     let mut at = Walk::start(book);
     loop {
         match at.peek(file, book) {
             Coming::Entry(e, w) => {
                 let own = report::own_of(file, book, w.chunk, e);
-                frames::write_frame(content::part(file, own.place, own.length));
+                frames::write_frame(out, content::part(file, own.place, own.length))?;
                 at = w.after(e);
             }
-            Coming::End => return,
+            Coming::End => return Ok(()),
             Coming::Refused(r) => {
-                frames::write_refusal(r);
-                return;
+                frames::write_refusal(out, r)?;
+                return Ok(());
             }
         }
     }
 }
 
-fn write_listing(file: &[u8]) {
+fn write_listing<W: Write>(out: &mut W, file: &[u8]) -> io::Result<()> {
     match opening::open(file) {
-        Opened::Book(book) => write_entries(file, book),
+        Opened::Book(book) => write_entries(out, file, book),
         Opened::Refused(r) => {
-            frames::write_refusal(r);
+            frames::write_refusal(out, r)?;
+            Ok(())
         }
     }
 }
 
-fn main() {
+fn main(rt: HostRuntime) -> io::Result<()> {
+    let mut out = rt.stdout();
     let mut buf = [0u8; 60001];
-    let got = io::read_full(0, &mut buf);
+    let got = input::fill(&mut rt.stdin(), &mut buf)?;
     if 60000 < got {
-        frames::write_refusal(refusals::refuse(29));
-        return;
+        frames::write_refusal(&mut out, refusals::refuse(29))?;
+        return Ok(());
     }
-    write_listing(&buf[..got]);
+    write_listing(&mut out, &buf[..got])
 }

@@ -6,4 +6,4 @@ pub mod Leveled
 pub mod Shaping
 pub mod Lengths
 pub mod Indexing
-pub mod Answers
+pub mod Heads

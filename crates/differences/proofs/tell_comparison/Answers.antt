@@ -5,20 +5,20 @@ use Rattle.differences.proofs.tell_comparison.Goals as goal
 
 pub returns-in-First : goal.returns-in-First
 returns-in-First c = let z = c.in-First.is in
-    (rw z, (rw z c.walks_numbers.ensures, (rw z (c.fifteen.ensures ∙ ap (fifteen_of 1 _) c.no_entry.ensures), rw z)))
+    record { code = rw z; cursor = rw z c.walks_numbers.ensures; numbers = rw z (c.fifteen.ensures ∙ ap (fifteen_of 1 _) c.no_entry.ensures); totals = rw z }
 
 pub returns-in-Second : goal.returns-in-Second
 returns-in-Second c = let z = c.in-Second.is in
-    (rw z, (rw z c.walks_numbers-in-Second.ensures, (rw z (c.fifteen-in-Second.ensures ∙ ap (λ (s : Shown). fifteen_of 2 s c.in-Second.y) c.no_entry-in-Second.ensures), rw z)))
+    record { code = rw z; cursor = rw z c.walks_numbers-in-Second.ensures; numbers = rw z (c.fifteen-in-Second.ensures ∙ ap (λ (s : Shown). fifteen_of 2 s c.in-Second.y) c.no_entry-in-Second.ensures); totals = rw z }
 
 pub returns-in-Changed : goal.returns-in-Changed
 returns-in-Changed c = let z = c.in-Changed.is in
-    (rw z, (rw z c.walks_numbers-in-Changed.ensures, (rw z c.fifteen-in-Changed.ensures, rw z)))
+    record { code = rw z; cursor = rw z c.walks_numbers-in-Changed.ensures; numbers = rw z c.fifteen-in-Changed.ensures; totals = rw z }
 
 pub returns-in-End : goal.returns-in-End
 returns-in-End c = let z = c.in-End.is in
-    (rw z, (rw z, (rw z, rw z)))
+    record { code = rw z; cursor = rw z; numbers = rw z; totals = rw z }
 
 pub returns-in-Refused : goal.returns-in-Refused
 returns-in-Refused c = let z = c.in-Refused.is in
-    (rw (z, ← c.code.ensures), (rw z, (rw z, rw z)))
+    record { code = rw (z, ← c.code.ensures); cursor = rw z; numbers = rw z; totals = rw z }

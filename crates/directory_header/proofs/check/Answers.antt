@@ -1,9 +1,13 @@
-use Rattle.fields.proofs.Base.{◌≡◌, sym, ap, ◌∙◌}
-use Rattle.directory_header.specs.DirectoryHeader.{directory_fields_of, directory_right, directory_header_of}
+use Rattle.fields.proofs.Base.{◌≡◌, Bool, ℕ, sym, ap, ◌∙◌}
+use Rattle.directory_header.specs.DirectoryHeader.{directory_right, directory_header_of}
 use Rattle.directory_header.specs.declared.DirectoryFields.{DirectoryFields}
 use Rattle.directory_header.specs.declared.CheckedDirectoryHeader.TheVariants.{Good}
 use Rattle.directory_header.proofs.Checks.{directory_good}
 use Rattle.directory_header.proofs.check.Goals as goal
+
+-- the rule over the fields g, where it was asked of f, which is g
+right_is : (f g : DirectoryFields) (n : ℕ) (x y : Bool) → f ≡ g → x ≡ directory_right f n → x ≡ y → directory_right g n ≡ y
+right_is f g n x y p q e = ap (λ (k : DirectoryFields). directory_right k n) (sym p) ∙ sym q ∙ e
 
 pub returns-then-not-directory_tagged : goal.returns-then-not-directory_tagged
 unfolding directory_header_of
@@ -12,17 +16,13 @@ returns-then-not-directory_tagged c = rw (sym c.directory_tagged.ensures ∙ c.i
 pub returns-then-not-directory_right : goal.returns-then-not-directory_right
 unfolding directory_header_of
 returns-then-not-directory_right c =
-    let right_is : let a = c.args in
-    c.directory_right.result ≡ directory_right (directory_fields_of a.d.now) a.n =
-    let a = c.args in
-    c.directory_right.ensures ∙ ap (λ (f : DirectoryFields). directory_right f a.n) c.fields_of-f.ensures in
-    rw (sym c.directory_tagged.ensures ∙ c.if-not-directory_tagged.false, sym right_is ∙ c.if-not-directory_right.true)
+    rw (
+      sym c.directory_tagged.ensures ∙ c.if-not-directory_tagged.false,
+      right_is _ _ c.args.n _ _ c.fields_of-f.ensures c.directory_right.ensures c.if-not-directory_right.true,
+    )
 
 pub returns : goal.returns
 returns c =
-    let right_is : let a = c.args in
-    c.directory_right.result ≡ directory_right (directory_fields_of a.d.now) a.n =
-    let a = c.args in
-    c.directory_right.ensures ∙ ap (λ (f : DirectoryFields). directory_right f a.n) c.fields_of-f.ensures in
     ap Good c.fields_of-f.ensures
-    ∙ sym (directory_good _ _ (sym c.directory_tagged.ensures ∙ c.if-not-directory_tagged.false) (sym right_is ∙ c.if-not-directory_right.false))
+    ∙ sym (directory_good _ _ (sym c.directory_tagged.ensures ∙ c.if-not-directory_tagged.false)
+    (right_is _ _ c.args.n _ _ c.fields_of-f.ensures c.directory_right.ensures c.if-not-directory_right.false))

@@ -1,33 +1,32 @@
-use Rattle.fields.proofs.Base.{◌≡◌, ◌&&◌, ◌+◌, leb, sym, ◌∙◌}
-use Rattle.file_header.specs.FileHeader.{content_right}
+use Rattle.fields.proofs.Base.{◌≡◌, ◌&&◌, ◌+◌, List, ℕ, leb, sym, ◌∙◌}
+use Rattle.file_header.specs.FileHeader.{section_start, section_length, directory_start, directory_length, content_start, content_right}
 use Rattle.file_header.proofs.content_right.Goals as goal
 
-pub returns-then-not-ends_by : goal.returns-then-not-ends_by
+-- the rule over the numbers that were read
+over_numbers : (h : List ℕ) (len x a m b n : ℕ) → x ≡ content_start h → a ≡ section_start h → m ≡ section_length h → b ≡ directory_start h → n ≡ directory_length h
+    → content_right h len ≡ (leb (a + m) x && leb (b + n) x && leb x len)
 unfolding content_right
+over_numbers h len x a m b n p q r s t = rw (p, q, r, s, t)
+
+pub returns-then-not-ends_by : goal.returns-then-not-ends_by
 returns-then-not-ends_by c =
-    let over_numbers : let n = c.directory_length-n.result in let b = c.directory_start-b.result in
-    let m = c.section_length-m.result in let a = c.section_start-a.result in
-    let x = c.content_start-content.result in let g = c.args in
-    content_right g.h.now g.len ≡ (leb (a + m) x && leb (b + n) x && leb x g.len) =
-    rw (c.directory_length-n.ensures, c.directory_start-b.ensures, c.section_length-m.ensures, c.section_start-a.ensures, c.content_start-content.ensures) in
-    rw (over_numbers, sym c.ends_by.ensures ∙ c.if-not-ends_by.true)
+    rw (
+      over_numbers c.args.h.now c.args.len _ _ _ _ _ c.content_start-content.ensures c.section_start-a.ensures c.section_length-m.ensures c.directory_start-b.ensures c.directory_length-n.ensures,
+      sym c.ends_by.ensures ∙ c.if-not-ends_by.true,
+    )
 
 pub returns-then-not-ends_by-2 : goal.returns-then-not-ends_by-2
-unfolding content_right
 returns-then-not-ends_by-2 c =
-    let over_numbers : let n = c.directory_length-n.result in let b = c.directory_start-b.result in
-    let m = c.section_length-m.result in let a = c.section_start-a.result in
-    let x = c.content_start-content.result in let g = c.args in
-    content_right g.h.now g.len ≡ (leb (a + m) x && leb (b + n) x && leb x g.len) =
-    rw (c.directory_length-n.ensures, c.directory_start-b.ensures, c.section_length-m.ensures, c.section_start-a.ensures, c.content_start-content.ensures) in
-    rw (over_numbers, sym c.ends_by.ensures ∙ c.if-not-ends_by.false, sym c.ends_by-2.ensures ∙ c.if-not-ends_by-2.true)
+    rw (
+      over_numbers c.args.h.now c.args.len _ _ _ _ _ c.content_start-content.ensures c.section_start-a.ensures c.section_length-m.ensures c.directory_start-b.ensures c.directory_length-n.ensures,
+      sym c.ends_by.ensures ∙ c.if-not-ends_by.false,
+      sym c.ends_by-2.ensures ∙ c.if-not-ends_by-2.true,
+    )
 
 pub returns : goal.returns
-unfolding content_right
 returns c =
-    let over_numbers : let n = c.directory_length-n.result in let b = c.directory_start-b.result in
-    let m = c.section_length-m.result in let a = c.section_start-a.result in
-    let x = c.content_start-content.result in let g = c.args in
-    content_right g.h.now g.len ≡ (leb (a + m) x && leb (b + n) x && leb x g.len) =
-    rw (c.directory_length-n.ensures, c.directory_start-b.ensures, c.section_length-m.ensures, c.section_start-a.ensures, c.content_start-content.ensures) in
-    rw (over_numbers, sym c.ends_by.ensures ∙ c.if-not-ends_by.false, sym c.ends_by-2.ensures ∙ c.if-not-ends_by-2.false)
+    rw (
+      over_numbers c.args.h.now c.args.len _ _ _ _ _ c.content_start-content.ensures c.section_start-a.ensures c.section_length-m.ensures c.directory_start-b.ensures c.directory_length-n.ensures,
+      sym c.ends_by.ensures ∙ c.if-not-ends_by.false,
+      sym c.ends_by-2.ensures ∙ c.if-not-ends_by-2.false,
+    )

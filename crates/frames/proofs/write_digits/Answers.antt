@@ -1,4 +1,4 @@
-use Rattle.std.proofs.Common.{◌≡◌, ◌++◌, arith, rules, subst, sym, ap, ◌∙◌, refl, take, drop}
+use Rattle.std.proofs.Common.{rules, subst, sym, ap, ◌∙◌, take, drop}
 use Rattle.std.specs.Io.KnownBytes.{Appends}
 use Rattle.std.proofs.KnownBytes.{Appends-nil, Appends-trans}
 use Rattle.frames.specs.Hex.{hex_of}
@@ -17,8 +17,8 @@ loop-from-preserved g c =
     record {
       within = search rules;
       written =
-      subst
-      (Appends _ _)
-      (sym (hex_of-append (take l bytes) (take n (drop l bytes))) ∙ ap hex_of (sym (take-add l n bytes)))
-      (Appends-trans _ _ _ _ _ c.loop-from.invariant.written c.in_ok-from.ensures.digits)
+          subst
+          (Appends _ _)
+          (sym (hex_of-append (take l bytes) (take n (drop l bytes))) ∙ ap hex_of (sym (take-add l n bytes)))
+          (Appends-trans _ _ _ _ _ c.loop-from.invariant.written c.in_ok-from.ensures.digits);
     }

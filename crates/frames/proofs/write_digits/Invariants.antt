@@ -8,7 +8,7 @@ abbrev pub invariant-loop-from : goal.invariant-loop-from
 invariant-loop-from g l =
     record {
       within : l.from ≤ length l.bytes;
-      written : Appends (g.W.Write.contents l.initial.out) (g.W.Write.contents l.out) (hex_of (take l.from l.bytes))
+      written : Appends (g.W.Write.contents l.initial.out) (g.W.Write.contents l.out) (hex_of (take l.from l.bytes));
     }
 
 abbrev pub decreases-loop-from : goal.decreases-loop-from

@@ -1,23 +1,16 @@
 use Rattle.fields.proofs.Base.{◌≡◌, sym, ap, ◌∙◌, List, ℕ, length}
 use Rattle.file_header.specs.FileHeader.{file_header_of}
 use Rattle.file_header.specs.declared.CheckedFileHeader.{CheckedFileHeader}
-use Rattle.header.specs.Header.{after_file, header_of}
+use Rattle.header.specs.Header.{header_in, after_file, header_of}
 use Rattle.header.proofs.read.Goals as goal
 
-pub returns-in-Good : goal.returns-in-Good
+-- what follows on the answer x of the file header's check, which is y
+answered : (s h : List ℕ) (x y : CheckedFileHeader) → h ≡ header_in s → x ≡ file_header_of h (length s) → x ≡ y → after_file s y ≡ header_of s
 unfolding header_of
-returns-in-Good c =
-    let answered : (x : CheckedFileHeader) → c.check.result ≡ x → let s = c.args.file.now in
-    after_file s x ≡ header_of s =
-    λ x e. let s = c.args.file.now in
-    ap (after_file s) (sym e ∙ c.check.ensures ∙ ap (λ (h : List ℕ). file_header_of h (length s)) c.part-h.ensures) in
-    c.read_section.ensures ∙ answered _ c.in-Good.is
+answered s h x y p e q = ap (after_file s) (sym q ∙ e ∙ ap (λ (k : List ℕ). file_header_of k (length s)) p)
+
+pub returns-in-Good : goal.returns-in-Good
+returns-in-Good c = c.read_section.ensures ∙ answered c.args.file.now _ _ _ c.part-h.ensures c.check.ensures c.in-Good.is
 
 pub returns-in-Refused : goal.returns-in-Refused
-unfolding header_of
-returns-in-Refused c =
-    let answered : (x : CheckedFileHeader) → c.check.result ≡ x → let s = c.args.file.now in
-    after_file s x ≡ header_of s =
-    λ x e. let s = c.args.file.now in
-    ap (after_file s) (sym e ∙ c.check.ensures ∙ ap (λ (h : List ℕ). file_header_of h (length s)) c.part-h.ensures) in
-    answered _ c.in-Refused.is
+returns-in-Refused c = answered c.args.file.now _ _ _ c.part-h.ensures c.check.ensures c.in-Refused.is

@@ -1,6 +1,11 @@
 use Rattle.hodsplinter.proofs.hods_chunk_page.Goals as goal
 
 pub returns : goal.returns
-returns c = let w = rw c.record_in.ensures at c.chunk_page-page.ensures in
-    let t = rw w.0 at c.tell_page.ensures in
-    (t.0, (w.1, t.1))
+returns c =
+    let q = c.record_in.ensures in
+    let e = rw q at c.chunk_page-page.ensures.answer in
+    record {
+      answer = rw e at c.tell_page.ensures.code;
+      entries = rw q at c.chunk_page-page.ensures.written;
+      numbers = rw e at c.tell_page.ensures.numbers;
+    }

@@ -8,7 +8,7 @@ invariant-loop-done g l =
     record {
       size : length l.buf ≡ length l.initial.buf;
       within : l.done ≤ length l.buf;
-      given : Consumes (g.R.Read.remaining l.initial.reader) (g.R.Read.remaining l.reader) (take l.done l.buf)
+      given : Consumes (g.R.Read.remaining l.initial.reader) (g.R.Read.remaining l.reader) (take l.done l.buf);
     }
 
 abbrev pub decreases-loop-done : goal.decreases-loop-done

@@ -4,12 +4,13 @@ use Rattle.entries.specs.Entry.{Entry}
 use Rattle.chunk.specs.Chunk.{entries_in}
 use Rattle.chunk_fields.specs.ChunkFields.{entry_count}
 use Rattle.header.specs.declared.Record.{Record}
-use Rattle.tree.specs.Walk.{TreeProgress, visit, into_child, walk_tree}
+use Rattle.tree.specs.Walk.{TreeProgress, going, visit, into_child, walk_tree}
 use Rattle.tree.proofs.Chunks.{index_chunk_lem}
 use Rattle.tree.proofs.Steps.{walk_none, leaf_other, index_none, index_not, index_enter}
 use Rattle.book.specs.Book.{chunk_bytes, directory_of, shape_of}
 use Rattle.opening.specs.Passes.{progress_of, named_child}
 use Rattle.opening.specs.declared.NamedChild.{NamedChild}
+use Rattle.opening.specs.declared.NamedChild.TheVariants.{Named}
 use Rattle.opening.proofs.Visits.{Left, Visited, all_left, none_left, visited, stopped_is, going_is, leaf_is}
 use Rattle.opening.proofs.+walk_tree.Goals as goal
 
@@ -18,6 +19,12 @@ met : (s : List ℕ) (r : Record) (c : ℕ) (f : ℕ → ℕ → ℕ → TreePro
     → 0 < rest → Left s r c rest at xs → x ≡ named_child s r c at → x ≡ y → Visited s r c f at xs expected left (rest - 1) y
 met s r c f at xs expected left rest x y h i p q =
     subst (Visited s r c f at xs expected left (rest - 1)) (sym p ∙ q) (visited s r c f at xs expected left rest h i)
+
+-- the visit goes on behind an entry under whose child the walk comes to e and k
+on : (s : List ℕ) (r : Record) (c : ℕ) (f : ℕ → ℕ → ℕ → TreeProgress) (at : ℕ) (xs : List Entry) (expected left rest child behind e k : ℕ) (t : TreeProgress)
+    → Visited s r c f at xs expected left rest (Named child behind) → f child expected left ≡ going e k → visit (into_child (directory_of s r) f) xs expected left ≡ t
+    → (ys : List Entry) × Left s r c rest behind ys × (visit (into_child (directory_of s r) f) ys e k ≡ t)
+on s r c f at xs expected left rest child behind e k t v z i = (v.0, v.1, sym (rw z at v.2) ∙ i)
 
 pub returns-then-level-eq0 : goal.returns-then-level-eq0
 returns-then-level-eq0 t c =
@@ -80,7 +87,7 @@ loop-rest-preserved t c =
     let f = walk_tree (directory_of a.file.now a.book) (shape_of a.book) (a.level - 1) in
     let w = met a.file.now a.book a.c f l.at l.invariant.0 l.next l.k l.rest _ _ c.loop-rest-test.true l.invariant.1 c.named_child.ensures c.in-Named.is in
     let z = going_is (f c.in-Named.child l.next l.k) c.in-Going.e c.in-Going.l (sym c.in-Going.is ∙ c.walk_tree.ensures) in
-    (w.0, w.1, sym (rw z at w.2) ∙ l.invariant.2)
+    on a.file.now a.book a.c f l.at l.invariant.0 l.next l.k (l.rest - 1) c.in-Named.child c.in-Named.behind c.in-Going.e c.in-Going.l _ w z l.invariant.2
 
 pub returns : goal.returns
 returns t c =

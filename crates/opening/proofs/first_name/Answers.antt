@@ -1,7 +1,14 @@
-use Rattle.fields.proofs.Base.{subst, add-sub_cancel_left, arith, ◌+◌, ◌≤◌, length}
+use Rattle.fields.proofs.Base.{◌≡◌, List, ℕ, subst, add-sub_cancel_left, arith, ◌+◌, ◌≤◌, length}
+use Rattle.entries.specs.declared.Place.{Place}
 use Rattle.quickref.specs.declared.Hit.TheVariants.{At}
+use Rattle.header.specs.declared.Record.{Record}
+use Rattle.book.specs.Book.{chunk_bytes}
 use Rattle.opening.specs.Passes.{FirstHit}
 use Rattle.opening.proofs.first_name.Goals as goal
+
+-- the first entry lies inside the bytes b of its chunk
+inside : (s : List ℕ) (r : Record) (c : ℕ) (b : List ℕ) (x : Place) → b ≡ chunk_bytes s r c → FirstHit s r c (At x) → x.start + x.len ≤ length b
+inside s r c b x q h = rw q h.0
 
 pub returns-in_default : goal.returns-in_default
 returns-in_default c = let a = c.args in
@@ -9,31 +16,18 @@ returns-in_default c = let a = c.args in
 
 pub overflow_add-result : goal.overflow_add-result
 overflow_add-result c =
-    let hit : let a = c.args in
-    FirstHit a.file.now a.book a.c (At c.in-At.e) =
     let a = c.args in
-    subst (FirstHit a.file.now a.book a.c) c.in-At.is c.first_of.ensures in
-    let inside : let e = c.in-At.e in
-    e.start + e.len ≤ length c.chunk_bytes-bytes.result.now =
-    rw c.chunk_bytes-bytes.ensures (hit).0 in
-    omega (arith, inside)
+    let h = subst (FirstHit a.file.now a.book a.c) c.in-At.is c.first_of.ensures in
+    omega (arith, inside a.file.now a.book a.c c.chunk_bytes-bytes.result.now c.in-At.e c.chunk_bytes-bytes.ensures h)
 
 pub slice_bounds-result-end-2 : goal.slice_bounds-result-end-2
 slice_bounds-result-end-2 c =
-    let hit : let a = c.args in
-    FirstHit a.file.now a.book a.c (At c.in-At.e) =
     let a = c.args in
-    subst (FirstHit a.file.now a.book a.c) c.in-At.is c.first_of.ensures in
-    let inside : let e = c.in-At.e in
-    e.start + e.len ≤ length c.chunk_bytes-bytes.result.now =
-    rw c.chunk_bytes-bytes.ensures (hit).0 in
-    omega (arith, inside)
+    let h = subst (FirstHit a.file.now a.book a.c) c.in-At.is c.first_of.ensures in
+    omega (arith, inside a.file.now a.book a.c c.chunk_bytes-bytes.result.now c.in-At.e c.chunk_bytes-bytes.ensures h)
 
 pub returns : goal.returns
 returns c =
-    let hit : let a = c.args in
-    FirstHit a.file.now a.book a.c (At c.in-At.e) =
     let a = c.args in
-    subst (FirstHit a.file.now a.book a.c) c.in-At.is c.first_of.ensures in
-    let h = hit in
+    let h = subst (FirstHit a.file.now a.book a.c) c.in-At.is c.first_of.ensures in
     rw (← h.1, ← c.chunk_bytes-bytes.ensures, add-sub_cancel_left)

@@ -1,4 +1,3 @@
-
 use Rattle.opening.proofs.Firsts.{first_of_good}
 use Rattle.opening.proofs.first_of.Goals as goal
 

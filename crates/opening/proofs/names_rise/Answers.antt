@@ -1,95 +1,65 @@
-use Rattle.fields.proofs.Base.{◌≡◌, sym, ◌∙◌, add-sub_cancel_left, arith, ◌+◌, ◌≤◌, length}
+use Rattle.fields.proofs.Base.{◌≡◌, List, ℕ, true, sym, ◌∙◌, add-sub_cancel_left, arith, ◌+◌, ◌≤◌, length}
+use Rattle.entries.specs.declared.Limits.{Limits}
+use Rattle.entries.specs.declared.Place.{Place}
 use Rattle.entries.specs.declared.Kind.TheVariants.{Listing}
 use Rattle.quickref.specs.Quickref.{last_in}
-use Rattle.tree.specs.Shape.{last_name}
+use Rattle.quickref.specs.declared.Hit.{Hit}
+use Rattle.quickref.specs.declared.Hit.TheVariants.{At, Nothing}
+use Rattle.header.specs.declared.Record.{Record}
+use Rattle.tree.specs.Shape.{last_name, listing_chunk}
+use Rattle.tree.proofs.Chunks.{listing_chunk_lem}
 use Rattle.book.specs.Book.{limits_of, chunk_bytes, directory_of, shape_of}
 use Rattle.opening.proofs.Firsts.{Hits, last_found, last_hit}
-use Rattle.tree.proofs.Chunks.{listing_chunk_lem}
 use Rattle.opening.proofs.names_rise.Goals as goal
 
+module _ (s : List ℕ) (r : Record) (c : ℕ) where
+  -- what was found in the bytes b, held to l, is the chunk's last entry
+  met : (l : Limits) (b : List ℕ) (h x : Hit) → l ≡ limits_of s r → b ≡ chunk_bytes s r c → h ≡ last_in l Listing b → h ≡ x
+      → x ≡ last_in (limits_of s r) Listing (chunk_bytes s r c)
+  met l b h x p q e g = rw (← p, ← q) (sym g ∙ e)
+
+  module _ (t : listing_chunk (directory_of s r) (shape_of r) c ≡ true) where
+    -- there is one,
+    there : Nothing ≡ last_in (limits_of s r) Listing (chunk_bytes s r c) → ⊥
+    unfolding directory_of
+    there e = last_found (limits_of s r) Listing (chunk_bytes s r c) (listing_chunk_lem (directory_of s r) (shape_of r) c t).1 e
+
+    -- with the last name, and inside the bytes
+    hit : (x : Place) → At x ≡ last_in (limits_of s r) Listing (chunk_bytes s r c) → Hits (chunk_bytes s r c) x (last_name (directory_of s r c))
+    unfolding directory_of
+    hit x e = last_hit (limits_of s r) Listing (chunk_bytes s r c) (listing_chunk_lem (directory_of s r) (shape_of r) c t).1 x e
+
+    inside : (x : Place) → At x ≡ last_in (limits_of s r) Listing (chunk_bytes s r c) → (b : List ℕ) → b ≡ chunk_bytes s r c → x.start + x.len ≤ length b
+    inside x e b q = rw q (hit x e).inside
+
 pub returns-in_default : goal.returns-in_default
-unfolding directory_of
 returns-in_default c =
-    let asked : let a = c.args in
-    c.last_entry.result ≡ last_in (limits_of a.file.now a.book) Listing (chunk_bytes a.file.now a.book a.c) =
-    rw (← c.limits.ensures, ← c.chunk_bytes-bytes.ensures) c.last_entry.ensures in
     let a = c.args in
-    absurd (last_found (limits_of a.file.now a.book) Listing (chunk_bytes a.file.now a.book a.c) (listing_chunk_lem (directory_of a.file.now a.book) (shape_of a.book) a.c c.requires.2).1
-    (sym c.in_default.is ∙ asked))
+    absurd (there a.file.now a.book a.c c.requires.2 (met a.file.now a.book a.c _ _ _ _ c.limits.ensures c.chunk_bytes-bytes.ensures c.last_entry.ensures c.in_default.is))
 
 pub overflow_add-start : goal.overflow_add-start
-unfolding directory_of
 overflow_add-start c =
-    let asked : let a = c.args in
-    c.last_entry.result ≡ last_in (limits_of a.file.now a.book) Listing (chunk_bytes a.file.now a.book a.c) =
-    rw (← c.limits.ensures, ← c.chunk_bytes-bytes.ensures) c.last_entry.ensures in
-    let hit : let a = c.args in
-    Hits (chunk_bytes a.file.now a.book a.c) c.in-At.e (last_name (directory_of a.file.now a.book a.c)) =
     let a = c.args in
-    last_hit (limits_of a.file.now a.book) Listing (chunk_bytes a.file.now a.book a.c) (listing_chunk_lem (directory_of a.file.now a.book) (shape_of a.book) a.c c.requires.2).1
-    c.in-At.e (sym c.in-At.is ∙ asked) in
-    let inside : let e = c.in-At.e in
-    e.start + e.len ≤ length c.chunk_bytes-bytes.result.now =
-    rw c.chunk_bytes-bytes.ensures (hit).inside in
-    omega (arith, inside)
+    let e = met a.file.now a.book a.c _ _ _ _ c.limits.ensures c.chunk_bytes-bytes.ensures c.last_entry.ensures c.in-At.is in
+    omega (arith, inside a.file.now a.book a.c c.requires.2 c.in-At.e e c.chunk_bytes-bytes.result.now c.chunk_bytes-bytes.ensures)
 
 pub slice_bounds-is_before-count : goal.slice_bounds-is_before-count
-unfolding directory_of
 slice_bounds-is_before-count c =
-    let asked : let a = c.args in
-    c.last_entry.result ≡ last_in (limits_of a.file.now a.book) Listing (chunk_bytes a.file.now a.book a.c) =
-    rw (← c.limits.ensures, ← c.chunk_bytes-bytes.ensures) c.last_entry.ensures in
-    let hit : let a = c.args in
-    Hits (chunk_bytes a.file.now a.book a.c) c.in-At.e (last_name (directory_of a.file.now a.book a.c)) =
     let a = c.args in
-    last_hit (limits_of a.file.now a.book) Listing (chunk_bytes a.file.now a.book a.c) (listing_chunk_lem (directory_of a.file.now a.book) (shape_of a.book) a.c c.requires.2).1
-    c.in-At.e (sym c.in-At.is ∙ asked) in
-    let inside : let e = c.in-At.e in
-    e.start + e.len ≤ length c.chunk_bytes-bytes.result.now =
-    rw c.chunk_bytes-bytes.ensures (hit).inside in
-    omega (arith, inside)
+    let e = met a.file.now a.book a.c _ _ _ _ c.limits.ensures c.chunk_bytes-bytes.ensures c.last_entry.ensures c.in-At.is in
+    omega (arith, inside a.file.now a.book a.c c.requires.2 c.in-At.e e c.chunk_bytes-bytes.result.now c.chunk_bytes-bytes.ensures)
 
 pub slice_bounds-is_before-start : goal.slice_bounds-is_before-start
-unfolding directory_of
-slice_bounds-is_before-start c =
-    let asked : let a = c.args in
-    c.last_entry.result ≡ last_in (limits_of a.file.now a.book) Listing (chunk_bytes a.file.now a.book a.c) =
-    rw (← c.limits.ensures, ← c.chunk_bytes-bytes.ensures) c.last_entry.ensures in
-    let hit : let a = c.args in
-    Hits (chunk_bytes a.file.now a.book a.c) c.in-At.e (last_name (directory_of a.file.now a.book a.c)) =
-    let a = c.args in
-    last_hit (limits_of a.file.now a.book) Listing (chunk_bytes a.file.now a.book a.c) (listing_chunk_lem (directory_of a.file.now a.book) (shape_of a.book) a.c c.requires.2).1
-    c.in-At.e (sym c.in-At.is ∙ asked) in
-    let inside : let e = c.in-At.e in
-    e.start + e.len ≤ length c.chunk_bytes-bytes.result.now =
-    rw c.chunk_bytes-bytes.ensures (hit).inside in
-    omega (arith, inside)
+slice_bounds-is_before-start c = omega arith
 
 pub slice_bounds-is_before-end : goal.slice_bounds-is_before-end
-unfolding directory_of
 slice_bounds-is_before-end c =
-    let asked : let a = c.args in
-    c.last_entry.result ≡ last_in (limits_of a.file.now a.book) Listing (chunk_bytes a.file.now a.book a.c) =
-    rw (← c.limits.ensures, ← c.chunk_bytes-bytes.ensures) c.last_entry.ensures in
-    let hit : let a = c.args in
-    Hits (chunk_bytes a.file.now a.book a.c) c.in-At.e (last_name (directory_of a.file.now a.book a.c)) =
     let a = c.args in
-    last_hit (limits_of a.file.now a.book) Listing (chunk_bytes a.file.now a.book a.c) (listing_chunk_lem (directory_of a.file.now a.book) (shape_of a.book) a.c c.requires.2).1
-    c.in-At.e (sym c.in-At.is ∙ asked) in
-    let inside : let e = c.in-At.e in
-    e.start + e.len ≤ length c.chunk_bytes-bytes.result.now =
-    rw c.chunk_bytes-bytes.ensures (hit).inside in
-    omega (arith, inside)
+    let e = met a.file.now a.book a.c _ _ _ _ c.limits.ensures c.chunk_bytes-bytes.ensures c.last_entry.ensures c.in-At.is in
+    omega (arith, inside a.file.now a.book a.c c.requires.2 c.in-At.e e c.chunk_bytes-bytes.result.now c.chunk_bytes-bytes.ensures)
 
 pub returns : goal.returns
-unfolding directory_of
 returns c =
-    let asked : let a = c.args in
-    c.last_entry.result ≡ last_in (limits_of a.file.now a.book) Listing (chunk_bytes a.file.now a.book a.c) =
-    rw (← c.limits.ensures, ← c.chunk_bytes-bytes.ensures) c.last_entry.ensures in
-    let hit : let a = c.args in
-    Hits (chunk_bytes a.file.now a.book a.c) c.in-At.e (last_name (directory_of a.file.now a.book a.c)) =
     let a = c.args in
-    last_hit (limits_of a.file.now a.book) Listing (chunk_bytes a.file.now a.book a.c) (listing_chunk_lem (directory_of a.file.now a.book) (shape_of a.book) a.c c.requires.2).1
-    c.in-At.e (sym c.in-At.is ∙ asked) in
-    rw (← (hit).named, ← c.chunk_bytes-bytes.ensures) (simp add-sub_cancel_left at c.is_before.ensures)
+    let e = met a.file.now a.book a.c _ _ _ _ c.limits.ensures c.chunk_bytes-bytes.ensures c.last_entry.ensures c.in-At.is in
+    rw (← (hit a.file.now a.book a.c c.requires.2 c.in-At.e e).named, ← c.chunk_bytes-bytes.ensures) (simp add-sub_cancel_left at c.is_before.ensures)

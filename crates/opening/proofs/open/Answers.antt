@@ -1,23 +1,15 @@
-use Rattle.fields.proofs.Base.{◌≡◌, sym, ap, ◌∙◌}
-use Rattle.header.specs.Header.{header_of}
-use Rattle.header.specs.declared.CheckedHeader.TheVariants.{Good}
+use Rattle.fields.proofs.Base.{sym, ap, ◌∙◌}
 use Rattle.header.proofs.Accepted.{header_accepted}
 use Rattle.opening.specs.Opened.{opened}
 use Rattle.opening.specs.declared.Opened.TheVariants.{Refused}
 use Rattle.opening.proofs.open.Goals as goal
 
 pub open_chunks-requires : goal.open_chunks-requires
-open_chunks-requires c =
-    let head_is : header_of c.args.file.now ≡ Good c.in-Good.book =
-    sym c.read.ensures ∙ c.in-Good.is in
-    (header_accepted _ _ (head_is)).count_high
+open_chunks-requires c = (header_accepted _ _ (sym c.read.ensures ∙ c.in-Good.is)).count_high
 
 pub returns-in-Good : goal.returns-in-Good
 unfolding opened
-returns-in-Good c =
-    let head_is : header_of c.args.file.now ≡ Good c.in-Good.book =
-    sym c.read.ensures ∙ c.in-Good.is in
-    rw (head_is) c.open_chunks.ensures
+returns-in-Good c = rw (sym c.read.ensures ∙ c.in-Good.is) c.open_chunks.ensures
 
 pub returns-in-Refused : goal.returns-in-Refused
 unfolding opened

@@ -1,43 +1,34 @@
-use Rattle.fields.proofs.Base.{◌≡◌, sym, ap, ap₂, ◌∙◌}
+use Rattle.fields.proofs.Base.{◌≡◌, List, ℕ, sym, ap, ap₂, ◌∙◌}
 use Rattle.names.specs.Names.{compared}
+use Rattle.entries.specs.declared.Limits.{Limits}
 use Rattle.entries.specs.declared.Kind.TheVariants.{Listing}
 use Rattle.quickref.specs.declared.Hit.{Hit}
 use Rattle.quickref.specs.declared.Hit.TheVariants.{At, Nothing}
 use Rattle.seek.specs.Seek.{find_in}
 use Rattle.seek.specs.Count.{cost_in}
 use Rattle.seek.specs.declared.CountedHit.{CountedHit}
+use Rattle.header.specs.declared.Record.{Record}
 use Rattle.book.specs.Book.{limits_of, chunk_bytes}
 use Rattle.search.specs.Search.{finding_of, finding_in}
 use Rattle.search.specs.declared.Finding.{Finding}
 use Rattle.report.specs.declared.Report.{Report}
 use Rattle.search.proofs.find_in.Goals as goal
 
-pub returns-in-At : goal.returns-in-At
+-- the finding of a search in the bytes b, held to l, whose answer x has the hit h
+finding_is : (s : List ℕ) (r : Record) (name : List ℕ) (c : ℕ) (l : Limits) (b : List ℕ) (x : CountedHit) (h : Hit) → l ≡ limits_of s r → b ≡ chunk_bytes s r c
+    → x ≡ record { hit = find_in l b (compared name); count = cost_in l Listing b (compared name) } → x.hit ≡ h
+    → finding_of s r c x.count h ≡ finding_in s r name c
 unfolding finding_in
+finding_is s r name c l b x h p q e g =
+    rw (← p, ← q) (ap₂ (finding_of s r c) (ap (λ (y : CountedHit). y.count) e) (sym g ∙ ap (λ (y : CountedHit). y.hit) e))
+
+pub returns-in-At : goal.returns-in-At
 returns-in-At c =
-    let found_is : let a = c.args in
-    record {
-      hit = find_in (limits_of a.file.now a.book) (chunk_bytes a.file.now a.book a.c) (compared a.name.now);
-      count = cost_in (limits_of a.file.now a.book) Listing (chunk_bytes a.file.now a.book a.c) (compared a.name.now);
-    } ≡ c.find-found.result =
-    rw (← c.limits.ensures, ← c.chunk_bytes-bytes.ensures) (sym c.find-found.ensures) in
-    let finding_is : (h : Hit) → c.find-found.result.hit ≡ h → let a = c.args in
-    finding_of a.file.now a.book a.c c.find-found.result.count h ≡ finding_in a.file.now a.book a.name.now a.c =
-    λ h q. let a = c.args in
-    ap₂ (finding_of a.file.now a.book a.c) (sym (ap (λ (r : CountedHit). r.count) (found_is))) (sym (ap (λ (r : CountedHit). r.hit) (found_is) ∙ q)) in
-    ap (λ (x : Report). Finding.Found c.find-found.result.count x) c.report_of.ensures ∙ finding_is (At _) c.in-At.is
+    let a = c.args in
+    ap (λ (x : Report). Finding.Found c.find-found.result.count x) c.report_of.ensures
+    ∙ finding_is a.file.now a.book a.name.now a.c _ _ c.find-found.result (At _) c.limits.ensures c.chunk_bytes-bytes.ensures c.find-found.ensures c.in-At.is
 
 pub returns-in-Nothing : goal.returns-in-Nothing
-unfolding finding_in
 returns-in-Nothing c =
-    let found_is : let a = c.args in
-    record {
-      hit = find_in (limits_of a.file.now a.book) (chunk_bytes a.file.now a.book a.c) (compared a.name.now);
-      count = cost_in (limits_of a.file.now a.book) Listing (chunk_bytes a.file.now a.book a.c) (compared a.name.now);
-    } ≡ c.find-found.result =
-    rw (← c.limits.ensures, ← c.chunk_bytes-bytes.ensures) (sym c.find-found.ensures) in
-    let finding_is : (h : Hit) → c.find-found.result.hit ≡ h → let a = c.args in
-    finding_of a.file.now a.book a.c c.find-found.result.count h ≡ finding_in a.file.now a.book a.name.now a.c =
-    λ h q. let a = c.args in
-    ap₂ (finding_of a.file.now a.book a.c) (sym (ap (λ (r : CountedHit). r.count) (found_is))) (sym (ap (λ (r : CountedHit). r.hit) (found_is) ∙ q)) in
-    finding_is Nothing c.in-Nothing.is
+    let a = c.args in
+    finding_is a.file.now a.book a.name.now a.c _ _ c.find-found.result Nothing c.limits.ensures c.chunk_bytes-bytes.ensures c.find-found.ensures c.in-Nothing.is

@@ -1,43 +1,33 @@
-use Rattle.fields.proofs.Base.{sym, ◌∙◌, true, arith, now}
+use Rattle.fields.proofs.Base.{arith}
 use Rattle.pack.proofs.Levels.{chunks_given}
 use Rattle.writer.specs.Plan.{ListingLevel}
 use Rattle.writer.proofs.Shaping.{first_over, shaping_start, shaping_end, shaping_deep, shaping_over, shaping_turn}
+use Rattle.writer.proofs.plan.Goals.{In-Count}
 use Rattle.writer.proofs.plan.Goals as goal
 
-pub shape_of-starts-in_default : goal.shape_of-starts-in_default
-shape_of-starts-in_default c = c.plan_listing.auto.1.1.1.0
+-- the listing level
+listed : (c : In-Count) → ListingLevel c.args.content c.args.input.now c.args.n c.args.starts.now c.plan_listing.new.starts c.in-Count.m
+listed c = rw c.in-Count.is at c.plan_listing.ensures
 
 pub returns-in_default : goal.returns-in_default
 returns-in_default c = rw c.in_default.is at c.plan_listing.ensures
 
-pub shape_of-starts-then-starts-m : goal.shape_of-starts-then-starts-m
-shape_of-starts-then-starts-m c = c.plan_listing.auto.1.1.1.0
-
 pub returns-then-starts-m : goal.returns-then-starts-m
 returns-then-starts-m c =
-    let listed : let a = c.args in
-    ListingLevel a.content a.input.now a.n a.starts.now c.plan_listing.new.1.1.1.0 c.in-Count.m =
-    rw c.in-Count.is at c.plan_listing.ensures in
-    let l = listed in
-    let k = c.plan_listing.auto.1.1.1.0 in
+    let l = listed (goal.at.returns-then-starts-m c).In-Count in
+    let k = c.plan_listing.auto.starts in
     let s = c.requires in
     (l.right, first_over _ _ _ _ _ _ _ s k l (chunks_given _ _ _ _) (omega (arith, k, s, c.if-starts-m.true)))
 
 pub loop-end-init : goal.loop-end-init
 loop-end-init c =
-    let listed : let a = c.args in
-    ListingLevel a.content a.input.now a.n a.starts.now c.plan_listing.new.1.1.1.0 c.in-Count.m =
-    rw c.in-Count.is at c.plan_listing.ensures in
-    let l = listed in
-    let k = c.plan_listing.auto.1.1.1.0 in
+    let l = listed (goal.at.loop-end-init c).In-Count in
+    let k = c.plan_listing.auto.starts in
     let s = c.requires in
     (l.right, shaping_start _ _ _ _ _ _ _ s k l (chunks_given _ _ _ _) (omega (arith, k, s, c.if-starts-m.false)))
 
 pub overflow_sub-end : goal.overflow_sub-end
 overflow_sub-end c = omega (arith, c.loop-end.invariant.1.size)
-
-pub shape_of-starts-then-depth-eq5 : goal.shape_of-starts-then-depth-eq5
-shape_of-starts-then-depth-eq5 c = c.loop-end.invariant.1.kept ∙ sym c.requires
 
 pub returns-then-depth-eq5 : goal.returns-then-depth-eq5
 returns-then-depth-eq5 c = let i = c.loop-end.invariant in (i.0, shaping_deep _ _ _ _ _ _ _ _ _ i.1 c.loop-end-test.true c.if-depth-eq5.true)
@@ -45,12 +35,9 @@ returns-then-depth-eq5 c = let i = c.loop-end.invariant in (i.0, shaping_deep _ 
 pub plan_level-next-requires : goal.plan_level-next-requires
 plan_level-next-requires c = let i = c.loop-end.invariant.1 in (omega (arith, i.size), i.inside, omega (arith, i.kept))
 
-pub shape_of-starts-then-starts-next : goal.shape_of-starts-then-starts-next
-shape_of-starts-then-starts-next c = c.plan_level-next.auto.1.1.1.0 ∙ c.loop-end.invariant.1.kept ∙ sym c.requires
-
 pub returns-then-starts-next : goal.returns-then-starts-next
 returns-then-starts-next c = let i = c.loop-end.invariant in
-    let k = c.plan_level-next.auto.1.1.1.0 in
+    let k = c.plan_level-next.auto.starts in
     (i.0, shaping_over _ _ _ _ _ _ _ _ _ i.1 c.loop-end-test.true _ _ k c.plan_level-next.ensures (omega (arith, k, c.if-starts-next.true)))
 
 pub overflow_add-depth : goal.overflow_add-depth
@@ -61,11 +48,8 @@ loop-end-smaller c = omega (arith, c.loop-end.invariant.1.high)
 
 pub loop-end-preserved : goal.loop-end-preserved
 loop-end-preserved c = let i = c.loop-end.invariant in
-    let k = c.plan_level-next.auto.1.1.1.0 in
+    let k = c.plan_level-next.auto.starts in
     (i.0, shaping_turn _ _ _ _ _ _ _ _ _ i.1 c.loop-end-test.true _ _ k c.plan_level-next.ensures (omega (arith, k, c.if-starts-next.false)) c.if-depth-eq5.false)
-
-pub shape_of-starts : goal.shape_of-starts
-shape_of-starts c = c.loop-end.invariant.1.kept ∙ sym c.requires
 
 pub returns : goal.returns
 returns c = let i = c.loop-end.invariant in (i.0, shaping_end _ _ _ _ _ _ _ _ _ i.1 c.loop-end-test.false)

@@ -15,10 +15,10 @@ pub returns : goal.returns
 returns c = let a = c.args in
     let w = c.write_chunk in
     let at = 204 + 4096 * a.c in
-    let l = length_extent a.content a.input.now a.starts.now a.from.kind a.from.left a.from.at a.n w.result w.ensures.0 (new_previous a.c) (new_next a.m a.c) in
+    let l = length_extent a.content a.input.now a.starts.now a.from.kind a.from.left a.from.at a.n w.result w.ensures.answer (new_previous a.c) (new_next a.m a.c) in
     let k : at + 4096 - at ≡ 4096 = omega arith in (
-      w.ensures.0,
+      w.ensures.answer,
       lent at (at + 4096 - at) a.out.now _ _
-          (written a.out.now at (at + 4096 - at) _ k (omega (arith, c.requires.0)) (rw (c.previous.ensures, c.following.ensures) at w.ensures.1))
+          (written a.out.now at (at + 4096 - at) _ k (omega (arith, c.requires.0)) (rw (c.previous.ensures, c.following.ensures) at w.ensures.written))
           (k ∙ sym l) (omega (arith, c.requires.0)),
     )

@@ -7,10 +7,10 @@ use Rattle.layout.proofs.Sizes.{length_file, length_section}
 use Rattle.writer.proofs.put_headers.Goals as goal
 
 pub put_section-requires : goal.put_section-requires
-put_section-requires c = omega (arith, c.requires.0, c.put_file_header.auto.0)
+put_section-requires c = omega (arith, c.requires.0, c.put_file_header.auto.out)
 
 pub put_directory_header-requires : goal.put_directory_header-requires
-put_directory_header-requires c = omega (arith, c.requires.0, c.put_file_header.auto.0, c.put_section.auto.0)
+put_directory_header-requires c = omega (arith, c.requires.0, c.put_file_header.auto.out, c.put_section.auto.out)
 
 pub returns : goal.returns
 unfolding headers_of
@@ -19,4 +19,4 @@ returns c = let a = c.args in
     three a.out.now _ _ _ 0 0x60 0x78 (file_header a.time a.language a.count) (section_zero (head_length a.count + a.content)) (directory_header a.language a.density a.depth (new_root a.depth a.count) (a.m - 1) a.count)
     c.put_file_header.ensures (omega (arith, length_file a.time a.language a.count))
     c.put_section.ensures (omega (arith, length_section (head_length a.count + a.content)))
-    (c.put_directory_header.ensures ∙ ap (λ (x : ℕ). sets c.put_section.new.0 0x78 (directory_header a.language a.density a.depth x (a.m - 1) a.count)) r)
+    (c.put_directory_header.ensures ∙ ap (λ (x : ℕ). sets c.put_section.new.out 0x78 (directory_header a.language a.density a.depth x (a.m - 1) a.count)) r)

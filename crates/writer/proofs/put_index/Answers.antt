@@ -18,10 +18,7 @@ pub loop-end-smaller : goal.loop-end-smaller
 loop-end-smaller c = let r = c.put_level-next in let x = indexing_some _ _ _ _ _ _ _ c.requires.0 _ _ _ c.loop-end.invariant c.loop-end-test.true _ r.ensures.0 in omega (arith, x.0, x.1)
 
 pub loop-end-preserved : goal.loop-end-preserved
-loop-end-preserved c = let r = c.put_level-next in indexing_turn _ _ _ _ _ _ _ c.requires.0 _ _ _ c.loop-end.invariant c.loop-end-test.true _ _ r.auto.0 r.ensures.0 r.ensures.1
-
-pub shape_of-out : goal.shape_of-out
-shape_of-out c = c.loop-end.invariant.kept
+loop-end-preserved c = let r = c.put_level-next in indexing_turn _ _ _ _ _ _ _ c.requires.0 _ _ _ c.loop-end.invariant c.loop-end-test.true _ _ r.auto.out r.ensures.0 r.ensures.1
 
 pub returns : goal.returns
 returns c = indexing_end _ _ _ _ _ _ _ c.requires.0 _ _ _ c.loop-end.invariant c.loop-end-test.false
