@@ -1,4 +1,3 @@
-use Rattle.fields.proofs.Base.{rules, length-set}
 use Rattle.page.proofs.Writing.{five_stores}
 use Rattle.page.proofs.put_report.Goals as goal
 
