@@ -3,8 +3,7 @@
 // the first before the second, is a line alone: ee, its number in one byte, its chunk in four, highest first.
 #![tactic(auto)]
 
-ghost use Rattle.std.specs.Prelude.{◌≡◌, IfOk};
-ghost use Rattle.io.specs.Counts.{IsPrefixLen};
+ghost use Rattle.std.specs.Prelude.{◌≡◌, ◌≤◌, length, take, IfOk};
 ghost use Rattle.std.specs.Io.{ReadsAtMost};
 ghost use Rattle.diff.specs.Files.{opened_file};
 ghost use Rattle.diff.specs.Steps.{next_after};
@@ -34,7 +33,8 @@ fn read_file<R: Files>(rt: &R, path: &str, buf: &mut [u8]) -> io::Result<usize>
 
 // Reads the file that an argument names into `buf`, as much of it as there is room for; no bytes where it cannot be read.
 fn read_named<R: Env + Files>(rt: &R, i: usize, buf: &mut [u8]) -> usize
-    ensures { IsPrefixLen result buf.new }
+    ensures bound { result ≤ length buf.new }
+    ensures count { result ≡ length (take result buf.new) }
 {
     let mut name = [0u8; 4096];
     let Ok(n) = rt.arg(i, &mut name) else {
