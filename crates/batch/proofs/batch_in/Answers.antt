@@ -16,7 +16,7 @@ returns-then-answers-n c =
     let count_is : All c.in-All.n ≡ counted_as 0 (names_in c.args.names.now) =
     sym c.in-All.is ∙ c.count_names.ensures in
     let a = c.args in
-    let r = in_short a.file.now a.book a.names.now a.answers.now _ (count_is) c.if-answers-n.true in
+    let r = in_short a.file.now a.book a.names.now a.answers.now _ count_is c.if-answers-n.true in
     record { answer = ap (λ x. Refused x) c.refuse-then-answers-n.ensures ∙ r.0; answers = r.1 }
 
 pub put_results-requires : goal.put_results-requires
@@ -24,12 +24,12 @@ put_results-requires c =
     let count_is : All c.in-All.n ≡ counted_as 0 (names_in c.args.names.now) =
     sym c.in-All.is ∙ c.count_names.ensures in
     let a = c.args in
-    in_room a.file.now a.book a.names.now a.answers.now _ (count_is) c.if-answers-n.false
+    in_room a.file.now a.book a.names.now a.answers.now _ count_is c.if-answers-n.false
 
 pub returns : goal.returns
 returns c =
     let count_is : All c.in-All.n ≡ counted_as 0 (names_in c.args.names.now) =
     sym c.in-All.is ∙ c.count_names.ensures in
     let a = c.args in
-    let r = in_done a.file.now a.book a.names.now a.answers.now _ (count_is) c.put_results.new.out c.if-answers-n.false c.put_results.ensures in
+    let r = in_done a.file.now a.book a.names.now a.answers.now _ count_is c.put_results.new.out c.if-answers-n.false c.put_results.ensures in
     record { answer = r.0; answers = r.1 }

@@ -15,25 +15,25 @@ pub overflow_add-at : goal.overflow_add-at
 overflow_add-at c =
     let read_is : asked_at c.args.names.now c.loop-at.at ≡ Value c.in-Value.len c.in-Value.start =
     sym c.asked_at.ensures ∙ c.in-Value.is in
-    let i = asked_inside _ _ _ _ (read_is) in omega arith
+    let i = asked_inside _ _ _ _ read_is in omega arith
 
 pub overflow_add-n : goal.overflow_add-n
 overflow_add-n c =
     let read_is : asked_at c.args.names.now c.loop-at.at ≡ Value c.in-Value.len c.in-Value.start =
     sym c.asked_at.ensures ∙ c.in-Value.is in
-    let i = asked_inside _ _ _ _ (read_is) in omega arith
+    let i = asked_inside _ _ _ _ read_is in omega arith
 
 pub loop-at-smaller : goal.loop-at-smaller
 loop-at-smaller c =
     let read_is : asked_at c.args.names.now c.loop-at.at ≡ Value c.in-Value.len c.in-Value.start =
     sym c.asked_at.ensures ∙ c.in-Value.is in
-    let i = asked_inside _ _ _ _ (read_is) in omega arith
+    let i = asked_inside _ _ _ _ read_is in omega arith
 
 pub loop-at-preserved : goal.loop-at-preserved
 loop-at-preserved c =
     let read_is : asked_at c.args.names.now c.loop-at.at ≡ Value c.in-Value.len c.in-Value.start =
     sym c.asked_at.ensures ∙ c.in-Value.is in
-    counting_more c.args.names.now c.loop-at.n c.loop-at.at c.loop-at.invariant _ _ c.loop-at-test.true (read_is)
+    counting_more c.args.names.now c.loop-at.n c.loop-at.at c.loop-at.invariant _ _ c.loop-at-test.true read_is
 
 pub returns : goal.returns
 returns c = counting_end c.args.names.now c.loop-at.n c.loop-at.at c.loop-at.invariant c.loop-at-test.false

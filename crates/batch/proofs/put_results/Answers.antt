@@ -21,8 +21,8 @@ overflow_add-start c =
     × (c.in-Value.start + c.in-Value.n ≤ length c.args.names.now)
     × (c.loop-at.to + 32 ≤ length c.loop-at.out) =
     let a = c.args in
-    let i = asked_inside _ _ _ _ (read_is) in
-    (i.0, i.1, left_room a.file.now a.book a.names.now _ _ _ _ c.loop-at.invariant c.loop-at-test.true _ _ (read_is)) in
+    let i = asked_inside _ _ _ _ read_is in
+    (i.0, i.1, left_room a.file.now a.book a.names.now _ _ _ _ c.loop-at.invariant c.loop-at-test.true _ _ read_is) in
     omega (arith, inside)
 
 pub slice_bounds-fetch-end : goal.slice_bounds-fetch-end
@@ -33,8 +33,8 @@ slice_bounds-fetch-end c =
     × (c.in-Value.start + c.in-Value.n ≤ length c.args.names.now)
     × (c.loop-at.to + 32 ≤ length c.loop-at.out) =
     let a = c.args in
-    let i = asked_inside _ _ _ _ (read_is) in
-    (i.0, i.1, left_room a.file.now a.book a.names.now _ _ _ _ c.loop-at.invariant c.loop-at-test.true _ _ (read_is)) in
+    let i = asked_inside _ _ _ _ read_is in
+    (i.0, i.1, left_room a.file.now a.book a.names.now _ _ _ _ c.loop-at.invariant c.loop-at-test.true _ _ read_is) in
     omega (arith, inside)
 
 pub put_result-requires : goal.put_result-requires
@@ -45,9 +45,9 @@ put_result-requires c =
     × (c.in-Value.start + c.in-Value.n ≤ length c.args.names.now)
     × (c.loop-at.to + 32 ≤ length c.loop-at.out) =
     let a = c.args in
-    let i = asked_inside _ _ _ _ (read_is) in
-    (i.0, i.1, left_room a.file.now a.book a.names.now _ _ _ _ c.loop-at.invariant c.loop-at-test.true _ _ (read_is)) in
-    (inside).2
+    let i = asked_inside _ _ _ _ read_is in
+    (i.0, i.1, left_room a.file.now a.book a.names.now _ _ _ _ c.loop-at.invariant c.loop-at-test.true _ _ read_is) in
+    inside.2
 
 pub overflow_add-at : goal.overflow_add-at
 overflow_add-at c =
@@ -57,8 +57,8 @@ overflow_add-at c =
     × (c.in-Value.start + c.in-Value.n ≤ length c.args.names.now)
     × (c.loop-at.to + 32 ≤ length c.loop-at.out) =
     let a = c.args in
-    let i = asked_inside _ _ _ _ (read_is) in
-    (i.0, i.1, left_room a.file.now a.book a.names.now _ _ _ _ c.loop-at.invariant c.loop-at-test.true _ _ (read_is)) in
+    let i = asked_inside _ _ _ _ read_is in
+    (i.0, i.1, left_room a.file.now a.book a.names.now _ _ _ _ c.loop-at.invariant c.loop-at-test.true _ _ read_is) in
     omega (arith, inside)
 
 pub loop-at-smaller : goal.loop-at-smaller
@@ -69,8 +69,8 @@ loop-at-smaller c =
     × (c.in-Value.start + c.in-Value.n ≤ length c.args.names.now)
     × (c.loop-at.to + 32 ≤ length c.loop-at.out) =
     let a = c.args in
-    let i = asked_inside _ _ _ _ (read_is) in
-    (i.0, i.1, left_room a.file.now a.book a.names.now _ _ _ _ c.loop-at.invariant c.loop-at-test.true _ _ (read_is)) in
+    let i = asked_inside _ _ _ _ read_is in
+    (i.0, i.1, left_room a.file.now a.book a.names.now _ _ _ _ c.loop-at.invariant c.loop-at-test.true _ _ read_is) in
     omega (arith, inside)
 
 pub loop-at-preserved : goal.loop-at-preserved
@@ -78,7 +78,7 @@ loop-at-preserved c =
     let read_is : asked_at c.args.names.now c.loop-at.at ≡ Value c.in-Value.n c.in-Value.start =
     sym c.asked_at.ensures ∙ c.in-Value.is in
     let a = c.args in
-    left_turn a.file.now a.book a.names.now a.out.now c.loop-at.out c.loop-at.at c.loop-at.to c.loop-at.invariant c.loop-at-test.true _ _ (read_is) _
+    left_turn a.file.now a.book a.names.now a.out.now c.loop-at.out c.loop-at.at c.loop-at.to c.loop-at.invariant c.loop-at-test.true _ _ read_is _
     (c.put_result.ensures ∙ ap (λ r. sets c.loop-at.out c.loop-at.to (result_of r)) (simp add-sub_cancel_left at c.fetch.ensures.answer))
 
 pub returns : goal.returns

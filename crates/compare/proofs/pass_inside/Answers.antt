@@ -30,9 +30,9 @@ loop-first-smaller c =
     ≡ On (both_at c.after-first.result c.after-second.result c.one_same-totals.result) =
     rw (c.one_same-totals.ensures, c.after-first.ensures, c.after-second.ensures)
     (same_passed c.args.file1.now c.args.one c.args.file2.now c.args.two c.requires.one_value c.requires.two_value
-    c.loop-first.first c.loop-first.second c.loop-first.totals _ _ (omega (arith, c.loop-first-test.true)) (omega (arith, c.if-second-lt1.false)) (same_is)) in
+    c.loop-first.first c.loop-first.second c.loop-first.totals _ _ (omega (arith, c.loop-first-test.true)) (omega (arith, c.if-second-lt1.false)) same_is) in
     let a = c.args in
-    turn_falls a.file1.now a.one a.file2.now a.two (both_at c.loop-first.first c.loop-first.second c.loop-first.totals) _ (turn_is)
+    turn_falls a.file1.now a.one a.file2.now a.two (both_at c.loop-first.first c.loop-first.second c.loop-first.totals) _ turn_is
 
 pub loop-first-preserved : goal.loop-first-preserved
 loop-first-preserved c =
@@ -47,11 +47,11 @@ loop-first-preserved c =
     ≡ On (both_at c.after-first.result c.after-second.result c.one_same-totals.result) =
     rw (c.one_same-totals.ensures, c.after-first.ensures, c.after-second.ensures)
     (same_passed c.args.file1.now c.args.one c.args.file2.now c.args.two c.requires.one_value c.requires.two_value
-    c.loop-first.first c.loop-first.second c.loop-first.totals _ _ (omega (arith, c.loop-first-test.true)) (omega (arith, c.if-second-lt1.false)) (same_is)) in
+    c.loop-first.first c.loop-first.second c.loop-first.totals _ _ (omega (arith, c.loop-first-test.true)) (omega (arith, c.if-second-lt1.false)) same_is) in
     let a = c.args in (
       rw (after_chunk c.loop-first.first _ _ c.after-first.ensures) c.loop-first.invariant.0,
       rw (after_chunk c.loop-first.second _ _ c.after-second.ensures) c.loop-first.invariant.1,
-      passed_more a.file1.now a.one a.file2.now a.two _ (both_at c.loop-first.first c.loop-first.second c.loop-first.totals) _ c.loop-first.invariant.2 (turn_is),
+      passed_more a.file1.now a.one a.file2.now a.two _ (both_at c.loop-first.first c.loop-first.second c.loop-first.totals) _ c.loop-first.invariant.2 turn_is,
     )
 
 pub returns-after-loop-first : goal.returns-after-loop-first

@@ -21,7 +21,7 @@ returns-in-Equal c =
       first = sym c.listing_at.ensures ∙ c.in-Good.is;
       second = sym c.listing_at-2.ensures ∙ c.in-Good-listing_at.is;
       numbers = sym c.same_at.ensures ∙ c.if-not-same_at.false;
-      names = sym (order_is) ∙ c.in-Equal.is;
+      names = sym order_is ∙ c.in-Equal.is;
     }
 
 pub returns-in-Less : goal.returns-in-Less

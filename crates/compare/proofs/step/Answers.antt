@@ -45,7 +45,7 @@ loop-step-smaller c =
     turned a.file1.now a.one a.file2.now a.two c.pass_same-here.result ≡ On c.in-On.behind =
     sym c.take_turn.ensures ∙ c.in-On.is in
     let a = c.args in
-    let f = turn_falls a.file1.now a.one a.file2.now a.two c.pass_same-here.result _ (turn_is) in
+    let f = turn_falls a.file1.now a.one a.file2.now a.two c.pass_same-here.result _ turn_is in
     omega (arith, f, c.pass_same-here.ensures.light)
 
 pub loop-step-preserved : goal.loop-step-preserved
@@ -54,4 +54,4 @@ loop-step-preserved c =
     turned a.file1.now a.one a.file2.now a.two c.pass_same-here.result ≡ On c.in-On.behind =
     sym c.take_turn.ensures ∙ c.in-On.is in
     let a = c.args in
-    sym (step_past a.file1.now a.one a.file2.now a.two c.pass_same-here.result _ (turn_is)) ∙ c.pass_same-here.ensures.step ∙ c.loop-step.invariant
+    sym (step_past a.file1.now a.one a.file2.now a.two c.pass_same-here.result _ turn_is) ∙ c.pass_same-here.ensures.step ∙ c.loop-step.invariant

@@ -16,7 +16,7 @@ returns-in_default c =
     rw (← c.limits.ensures, ← c.chunk_bytes-c.ensures) c.nth_entry.ensures in
     let a = c.args in
     ap Refused c.refuse.ensures
-    ∙ sym (read_absent a.file.now a.book a.at c.requires.chunk_value (sym (sought_is) ∙ c.in_default.is))
+    ∙ sym (read_absent a.file.now a.book a.at c.requires.chunk_value (sym sought_is ∙ c.in_default.is))
 
 pub overflow_add-after : goal.overflow_add-after
 overflow_add-after c =
@@ -25,12 +25,12 @@ overflow_add-after c =
     rw (← c.limits.ensures, ← c.chunk_bytes-c.ensures) c.nth_entry.ensures in
     let hit_is : let a = c.args in
     nth_in (limits_of a.file.now a.book) Listing (chunk_bytes a.file.now a.book a.at.chunk) a.at.entry ≡ At c.in-At.e =
-    sym (sought_is) ∙ c.in-At.is in
+    sym sought_is ∙ c.in-At.is in
     let count_is : let a = c.args in
     c.entry_count-total.result ≡ entry_count (chunk_bytes a.file.now a.book a.at.chunk) =
     rw (← c.chunk_bytes-c.ensures) c.entry_count-total.ensures in
     let a = c.args in
-    omega (arith, read_low a.file.now a.book a.at c.requires.chunk_value _ (hit_is), count_is)
+    omega (arith, read_low a.file.now a.book a.at c.requires.chunk_value _ hit_is, count_is)
 
 pub returns-then-after-total : goal.returns-then-after-total
 returns-then-after-total c =
@@ -39,14 +39,14 @@ returns-then-after-total c =
     rw (← c.limits.ensures, ← c.chunk_bytes-c.ensures) c.nth_entry.ensures in
     let hit_is : let a = c.args in
     nth_in (limits_of a.file.now a.book) Listing (chunk_bytes a.file.now a.book a.at.chunk) a.at.entry ≡ At c.in-At.e =
-    sym (sought_is) ∙ c.in-At.is in
+    sym sought_is ∙ c.in-At.is in
     let count_is : let a = c.args in
     c.entry_count-total.result ≡ entry_count (chunk_bytes a.file.now a.book a.at.chunk) =
     rw (← c.chunk_bytes-c.ensures) c.entry_count-total.ensures in
     let a = c.args in
     let n = count_is in
     ap (λ r. Entry r (cursor_at a.at.chunk (a.at.entry + 1))) c.report_of-r.ensures
-    ∙ sym (read_inside a.file.now a.book a.at c.requires.chunk_value _ (hit_is) (omega arith))
+    ∙ sym (read_inside a.file.now a.book a.at c.requires.chunk_value _ hit_is (omega arith))
 
 pub returns : goal.returns
 returns c =
@@ -55,11 +55,11 @@ returns c =
     rw (← c.limits.ensures, ← c.chunk_bytes-c.ensures) c.nth_entry.ensures in
     let hit_is : let a = c.args in
     nth_in (limits_of a.file.now a.book) Listing (chunk_bytes a.file.now a.book a.at.chunk) a.at.entry ≡ At c.in-At.e =
-    sym (sought_is) ∙ c.in-At.is in
+    sym sought_is ∙ c.in-At.is in
     let count_is : let a = c.args in
     c.entry_count-total.result ≡ entry_count (chunk_bytes a.file.now a.book a.at.chunk) =
     rw (← c.chunk_bytes-c.ensures) c.entry_count-total.ensures in
     let a = c.args in
     let n = count_is in
     ap₂ (λ r k. Entry r (cursor_at k 0)) c.report_of-r.ensures (sym c.requires.chunk_value_2)
-    ∙ sym (read_last a.file.now a.book a.at c.requires.chunk_value _ (hit_is) (omega arith))
+    ∙ sym (read_last a.file.now a.book a.at c.requires.chunk_value _ hit_is (omega arith))

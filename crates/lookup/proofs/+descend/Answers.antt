@@ -1,9 +1,7 @@
 -- The answers for `descend`, which calls itself: the measure is the level.
-use Rattle.fields.proofs.Base.{◌≡◌, refl, sym, ap, ◌∙◌, Bool, cond, ◌+◌, ◌<◌, arith, rules, set}
+use Rattle.fields.proofs.Base.{refl, sym, ap, ◌∙◌, Bool, cond, ◌+◌, arith, rules, set}
 use Rattle.search.specs.Search.{cost_at}
-use Rattle.lookup.specs.Step.{way_at}
 use Rattle.lookup.specs.declared.Answer.TheVariants.{Absent, Refused}
-use Rattle.lookup.specs.declared.Way.TheVariants.{Down, Ends}
 use Rattle.lookup.proofs.Descending.{listing_below, down_below, down_fits, ends_below, ends_fits, at_listing, at_end, at_bar, going_down}
 use Rattle.lookup.proofs.+descend.Goals as goal
 

@@ -17,7 +17,7 @@ returns-in-Below c =
     let a = c.args in
     (checked_index a.file.now a.book a.c (sym c.checked_chunk.ensures ∙ c.in-Index.is)).0 in
     let a = c.args in
-    index_down a.file.now a.book a.name.now a.c (is_index_lem) c.child_in-chosen.result _ c.child_in-chosen.ensures c.in-Below.is
+    index_down a.file.now a.book a.name.now a.c is_index_lem c.child_in-chosen.result _ c.child_in-chosen.ensures c.in-Below.is
 
 pub returns-in-Nowhere : goal.returns-in-Nowhere
 returns-in-Nowhere c =
@@ -25,4 +25,4 @@ returns-in-Nowhere c =
     let a = c.args in
     (checked_index a.file.now a.book a.c (sym c.checked_chunk.ensures ∙ c.in-Index.is)).0 in
     let a = c.args in
-    index_ends a.file.now a.book a.name.now a.c (is_index_lem) c.child_in-chosen.result c.child_in-chosen.ensures c.in-Nowhere.is
+    index_ends a.file.now a.book a.name.now a.c is_index_lem c.child_in-chosen.result c.child_in-chosen.ensures c.in-Nowhere.is

@@ -17,7 +17,7 @@ returns-in-Index c =
     sym c.record_fits.ensures ∙ c.if-not-record_fits.false in
     let a = c.args in
     let o = (checked_index a.file.now a.book a.chunk (sym c.checked_chunk.ensures ∙ c.in-Index.is)).1 in
-    let r = page_other a.file.now a.book a.chunk a.out.now (fits_is) o in
+    let r = page_other a.file.now a.book a.chunk a.out.now fits_is o in
     record { answer = ap Refused c.refuse-in-Index.ensures ∙ r.answer; written = r.written }
 
 pub returns-in-Refused : goal.returns-in-Refused
@@ -26,7 +26,7 @@ returns-in-Refused c =
     sym c.record_fits.ensures ∙ c.if-not-record_fits.false in
     let a = c.args in
     let o = (checked_refused a.file.now a.book a.chunk _ (sym c.checked_chunk.ensures ∙ c.in-Refused.is)).1 in
-    let r = page_other a.file.now a.book a.chunk a.out.now (fits_is) o in
+    let r = page_other a.file.now a.book a.chunk a.out.now fits_is o in
     record { answer = ap Refused c.refuse-in-Refused.ensures ∙ r.answer; written = r.written }
 
 pub returns-then-out-total : goal.returns-then-out-total
@@ -40,7 +40,7 @@ returns-then-out-total c =
     c.entry_count-total.result ≡ entry_count (chunk_bytes a.file.now a.book a.chunk) =
     rw (← c.chunk_bytes.ensures) c.entry_count-total.ensures in
     let a = c.args in
-    page_short a.file.now a.book a.chunk a.out.now (fits_is) (met_is).below c.entry_count-total.result (count_is) c.if-out-total.true
+    page_short a.file.now a.book a.chunk a.out.now fits_is met_is.below c.entry_count-total.result count_is c.if-out-total.true
 
 pub put_reports-requires : goal.put_reports-requires
 put_reports-requires c =
@@ -51,7 +51,7 @@ put_reports-requires c =
     c.entry_count-total.result ≡ entry_count (chunk_bytes a.file.now a.book a.chunk) =
     rw (← c.chunk_bytes.ensures) c.entry_count-total.ensures in
     let n = count_is in
-    record { chunk_value = (met_is).kind; chunk_in_bounds = omega arith }
+    record { chunk_value = met_is.kind; chunk_in_bounds = omega arith }
 
 pub returns : goal.returns
 returns c =
@@ -64,5 +64,5 @@ returns c =
     c.entry_count-total.result ≡ entry_count (chunk_bytes a.file.now a.book a.chunk) =
     rw (← c.chunk_bytes.ensures) c.entry_count-total.ensures in
     let a = c.args in
-    page_done a.file.now a.book a.chunk a.out.now (fits_is) (met_is).below c.entry_count-total.result (count_is)
-    c.if-out-total.false _ (met_is).next_is _ c.put_reports.ensures
+    page_done a.file.now a.book a.chunk a.out.now fits_is met_is.below c.entry_count-total.result count_is
+    c.if-out-total.false _ met_is.next_is _ c.put_reports.ensures

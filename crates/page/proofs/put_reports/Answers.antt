@@ -11,21 +11,6 @@ use Rattle.page.proofs.put_reports.Goals as goal
 pub loop-i-init : goal.loop-i-init
 loop-i-init c = rw c.first_place-at.ensures (left_start c.args.file.now c.args.book c.args.chunk c.requires.chunk_value c.args.out.now)
 
-pub shape_of-out-in_default : goal.shape_of-out-in_default
-unfolding item_at
-shape_of-out-in_default c =
-    let count_is : let a = c.args in
-    c.entry_count-total.result ≡ entry_count (chunk_bytes a.file.now a.book a.chunk) =
-    rw (← c.chunk_bytes-c.ensures) c.entry_count-total.ensures in
-    let read_is : let a = c.args in
-    c.listing_at.result ≡ item_at (limits_of a.file.now a.book) Listing (chunk_bytes a.file.now a.book a.chunk) c.loop-i.at =
-    rw (← c.limits-limits.ensures, ← c.chunk_bytes-c.ensures) c.listing_at.ensures in
-    let never_bad : ⊥ =
-    let n = count_is in
-    left_there c.args.file.now c.args.book c.args.chunk c.requires.chunk_value _ _ _ _ c.loop-i.invariant (omega arith)
-    (sym (read_is) ∙ c.in_default.is) in
-    absurd (never_bad)
-
 pub returns-in_default : goal.returns-in_default
 unfolding item_at
 returns-in_default c =
@@ -38,8 +23,8 @@ returns-in_default c =
     let never_bad : ⊥ =
     let n = count_is in
     left_there c.args.file.now c.args.book c.args.chunk c.requires.chunk_value _ _ _ _ c.loop-i.invariant (omega arith)
-    (sym (read_is) ∙ c.in_default.is) in
-    absurd (never_bad)
+    (sym read_is ∙ c.in_default.is) in
+    absurd never_bad
 
 pub put_report-requires : goal.put_report-requires
 put_report-requires c =
@@ -60,13 +45,10 @@ loop-i-preserved c =
     rw (← c.limits-limits.ensures, ← c.chunk_bytes-c.ensures) c.listing_at.ensures in
     let good_is : let a = c.args in
     item_at (limits_of a.file.now a.book) Listing (chunk_bytes a.file.now a.book a.chunk) c.loop-i.at ≡ Good c.in-Good.e =
-    sym (read_is) ∙ c.in-Good.is in
+    sym read_is ∙ c.in-Good.is in
     let n = count_is in
-    left_turn c.args.file.now c.args.book c.args.chunk c.requires.chunk_value _ _ _ _ _ _ c.loop-i.invariant (omega arith) (good_is)
+    left_turn c.args.file.now c.args.book c.args.chunk c.requires.chunk_value _ _ _ _ _ _ c.loop-i.invariant (omega arith) good_is
     (c.put_report.ensures ∙ ap (λ r. sets c.loop-i.out (5 * c.loop-i.i) (five_of r)) c.report_of.ensures)
-
-pub shape_of-out : goal.shape_of-out
-shape_of-out c = c.loop-i.invariant.size
 
 pub returns : goal.returns
 returns c =

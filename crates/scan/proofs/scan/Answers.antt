@@ -20,7 +20,7 @@ returns-then-not-good_record c =
     let a = c.args in
     promised a.file.now a.book a.name.now _
     (ap (λ x. Refused x) c.refuse-then-not-good_record.ensures
-    ∙ sym (replied_record a.file.now a.book a.name.now _ (good_name) (sym c.record_fits-good_record.ensures ∙ c.if-not-good_record.true)))
+    ∙ sym (replied_record a.file.now a.book a.name.now _ good_name (sym c.record_fits-good_record.ensures ∙ c.if-not-good_record.true)))
 
 pub returns : goal.returns
 unfolding scanned
@@ -30,4 +30,4 @@ returns c =
     let a = c.args in
     promised a.file.now a.book a.name.now _
     (c.scan_chain.ensures
-    ∙ sym (replied_search a.file.now a.book a.name.now _ (good_name) (sym c.record_fits-good_record.ensures ∙ c.if-not-good_record.false)))
+    ∙ sym (replied_search a.file.now a.book a.name.now _ good_name (sym c.record_fits-good_record.ensures ∙ c.if-not-good_record.false)))

@@ -22,14 +22,14 @@ returns-then-w-lt1 c =
     let on : let a = c.args in is_over a.book a.w ≡ false =
     sym c.is_over.ensures ∙ c.if-is_over.false in
     let a = c.args in
-    sym (enter_none a.file.now a.book a.w c.if-w-gt0.false (on) (omega arith))
+    sym (enter_none a.file.now a.book a.w c.if-w-gt0.false on (omega arith))
 
 pub returns-in-Index : goal.returns-in-Index
 returns-in-Index c =
     let on : let a = c.args in is_over a.book a.w ≡ false =
     sym c.is_over.ensures ∙ c.if-is_over.false in
     let a = c.args in
-    sym (enter_barred a.file.now a.book a.w c.if-w-gt0.false (on)
+    sym (enter_barred a.file.now a.book a.w c.if-w-gt0.false on
     (checked_index a.file.now a.book a.w.next (sym c.checked_chunk.ensures ∙ c.in-Index.is)).1)
 
 pub returns-in-Refused : goal.returns-in-Refused
@@ -37,7 +37,7 @@ returns-in-Refused c =
     let on : let a = c.args in is_over a.book a.w ≡ false =
     sym c.is_over.ensures ∙ c.if-is_over.false in
     let a = c.args in
-    sym (enter_barred a.file.now a.book a.w c.if-w-gt0.false (on)
+    sym (enter_barred a.file.now a.book a.w c.if-w-gt0.false on
     (checked_refused a.file.now a.book a.w.next _ (sym c.checked_chunk.ensures ∙ c.in-Refused.is)).1)
 
 pub returns : goal.returns
@@ -51,8 +51,8 @@ returns c =
     c.entry_count-left.result ≡ entry_count (chunk_bytes a.file.now a.book a.w.next) =
     rw (← c.chunk_bytes.ensures) c.entry_count-left.ensures in
     let a = c.args in
-    let d = checked_listing a.file.now a.book a.w.next _ _ (met_is) in
+    let d = checked_listing a.file.now a.book a.w.next _ _ met_is in
     ap (λ (i : ℕ). Inside (record { chunk = a.w.next; at = i; left = c.entry_count-left.result; next = c.in-Listing.next; more = a.w.more - 1 })) c.first_place-at.ensures
     ∙ ap₂ (λ (n k : ℕ). Inside (record { chunk = a.w.next; at = first_place Kind.Listing; left = n; next = k; more = a.w.more - 1 }))
     (count_is ∙ sym (entries_length a.file.now a.book a.w.next d.kind)) (sym d.next_is)
-    ∙ sym (enter_chunk a.file.now a.book a.w c.if-w-gt0.false (on) (omega arith) d.below)
+    ∙ sym (enter_chunk a.file.now a.book a.w c.if-w-gt0.false on (omega arith) d.below)

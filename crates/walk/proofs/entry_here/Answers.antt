@@ -13,7 +13,7 @@ returns-in-Good c =
     c.listing_at.result ≡ item_at (limits_of a.file.now a.book) Listing (chunk_bytes a.file.now a.book a.w.chunk) a.w.at =
     rw (← c.limits-limits.ensures, ← c.chunk_bytes-c.ensures) c.listing_at.ensures in
     let a = c.args in
-    sym (here_entry a.file.now a.book a.w _ (sym (item_is) ∙ c.in-Good.is))
+    sym (here_entry a.file.now a.book a.w _ (sym item_is ∙ c.in-Good.is))
 
 pub returns-in-Bad : goal.returns-in-Bad
 unfolding item_at
@@ -23,4 +23,4 @@ returns-in-Bad c =
     rw (← c.limits-limits.ensures, ← c.chunk_bytes-c.ensures) c.listing_at.ensures in
     let a = c.args in
     ap Refused c.no_reading.ensures
-    ∙ sym (here_none a.file.now a.book a.w (sym (item_is) ∙ c.in-Bad.is))
+    ∙ sym (here_none a.file.now a.book a.w (sym item_is ∙ c.in-Bad.is))

@@ -28,7 +28,7 @@ returns-in-At c =
     let l = linked_is in
     let a = c.args in
     owned_answer a.file.now (λ j. (c.type_inv.file j).fits) a.book a.self _
-    (ap At c.own_of.ensures ∙ sym (own_there _ _ _ (fits_is) l.below l.kind _ (sym (sought_is) ∙ c.in-At.is)))
+    (ap At c.own_of.ensures ∙ sym (own_there _ _ _ fits_is l.below l.kind _ (sym sought_is ∙ c.in-At.is)))
 
 pub returns-in-Nothing : goal.returns-in-Nothing
 returns-in-Nothing c =
@@ -43,4 +43,4 @@ returns-in-Nothing c =
     let l = linked_is in
     let a = c.args in
     owned_answer a.file.now (λ j. (c.type_inv.file j).fits) a.book a.self _
-    (sym (own_missing _ _ _ (fits_is) l.below l.kind (sym (sought_is) ∙ c.in-Nothing.is)))
+    (sym (own_missing _ _ _ fits_is l.below l.kind (sym sought_is ∙ c.in-Nothing.is)))

@@ -16,7 +16,7 @@ returns-then-self-no_chunk c =
     let fits_is : let a = c.args in record_fits a.file.now a.book ≡ true =
     sym c.record_fits.ensures ∙ c.if-not-record_fits.false in
     let a = c.args in
-    sym (step_end a.file.now a.book a.self (fits_is) (c.if-self-no_chunk.true ∙ c.no_chunk.ensures))
+    sym (step_end a.file.now a.book a.self fits_is (c.if-self-no_chunk.true ∙ c.no_chunk.ensures))
 
 pub step_in-requires : goal.step_in-requires
 step_in-requires c =
@@ -24,7 +24,7 @@ step_in-requires c =
     checked_chunk a.file.now a.book a.self.chunk ≡ Listing c.in-Listing.field-0 c.in-Listing.next =
     sym c.checked_chunk.ensures ∙ c.in-Listing.is in
     let a = c.args in
-    let m = checked_listing a.file.now a.book a.self.chunk _ _ (met_is) in
+    let m = checked_listing a.file.now a.book a.self.chunk _ _ met_is in
     record { chunk_value = m.kind; chunk_value_2 = m.next_is }
 
 pub returns-in-Listing : goal.returns-in-Listing
@@ -37,8 +37,8 @@ returns-in-Listing c =
     let another : c.args.self.chunk ≡ no_chunk → ⊥ =
     λ q. c.if-self-no_chunk.false (q ∙ sym c.no_chunk.ensures) in
     let a = c.args in
-    let m = checked_listing a.file.now a.book a.self.chunk _ _ (met_is) in
-    c.step_in.ensures ∙ sym (step_entry a.file.now a.book a.self (fits_is) (another) m.below)
+    let m = checked_listing a.file.now a.book a.self.chunk _ _ met_is in
+    c.step_in.ensures ∙ sym (step_entry a.file.now a.book a.self fits_is another m.below)
 
 pub returns-in-Index : goal.returns-in-Index
 returns-in-Index c =
@@ -48,7 +48,7 @@ returns-in-Index c =
     λ q. c.if-self-no_chunk.false (q ∙ sym c.no_chunk.ensures) in
     let a = c.args in
     ap Refused c.refuse-in-Index.ensures
-    ∙ sym (step_other a.file.now a.book a.self (fits_is) (another)
+    ∙ sym (step_other a.file.now a.book a.self fits_is another
     (checked_index a.file.now a.book a.self.chunk (sym c.checked_chunk.ensures ∙ c.in-Index.is)).1)
 
 pub returns-in-Refused : goal.returns-in-Refused
@@ -59,5 +59,5 @@ returns-in-Refused c =
     λ q. c.if-self-no_chunk.false (q ∙ sym c.no_chunk.ensures) in
     let a = c.args in
     ap Refused c.refuse-in-Refused.ensures
-    ∙ sym (step_other a.file.now a.book a.self (fits_is) (another)
+    ∙ sym (step_other a.file.now a.book a.self fits_is another
     (checked_refused a.file.now a.book a.self.chunk _ (sym c.checked_chunk.ensures ∙ c.in-Refused.is)).1)

@@ -14,14 +14,14 @@ returns-in-Inside c =
     let fits_is : let a = c.args in record_fits a.file.now a.book ≡ true =
     sym c.record_fits.ensures ∙ c.if-not-record_fits.false in
     let a = c.args in
-    c.entry_here.ensures ∙ sym (peek_entered a.file.now a.book a.self (fits_is) (Inside c.in-Inside.w) (sym c.enter.ensures ∙ c.in-Inside.is))
+    c.entry_here.ensures ∙ sym (peek_entered a.file.now a.book a.self fits_is (Inside c.in-Inside.w) (sym c.enter.ensures ∙ c.in-Inside.is))
 
 pub returns-in-Over : goal.returns-in-Over
 returns-in-Over c =
     let fits_is : let a = c.args in record_fits a.file.now a.book ≡ true =
     sym c.record_fits.ensures ∙ c.if-not-record_fits.false in
     let a = c.args in
-    sym (peek_entered a.file.now a.book a.self (fits_is) Over (sym c.enter.ensures ∙ c.in-Over.is))
+    sym (peek_entered a.file.now a.book a.self fits_is Over (sym c.enter.ensures ∙ c.in-Over.is))
 
 pub returns-in-Barred : goal.returns-in-Barred
 returns-in-Barred c =
@@ -29,4 +29,4 @@ returns-in-Barred c =
     sym c.record_fits.ensures ∙ c.if-not-record_fits.false in
     let a = c.args in
     ap Refused c.no_reading-in-Barred.ensures
-    ∙ sym (peek_entered a.file.now a.book a.self (fits_is) Barred (sym c.enter.ensures ∙ c.in-Barred.is))
+    ∙ sym (peek_entered a.file.now a.book a.self fits_is Barred (sym c.enter.ensures ∙ c.in-Barred.is))
