@@ -31,7 +31,7 @@ fn read_file<R: Files>(rt: &R, path: &str, buf: &mut [u8]) -> io::Result<usize>
     input::fill(&mut file, buf)
 }
 
-// Reads the file that an argument names into `buf`, as much of it as there is room for; no bytes where it cannot be read.
+// Reads the file that an argument names into `buf`, as much of it as there is room for; no bytes where it cannot be read, or where its name is not UTF-8.
 fn read_named<R: Env + Files>(rt: &R, i: usize, buf: &mut [u8]) -> usize
     ensures bound { result ≤ length buf.new }
     ensures count { result ≡ length (take result buf.new) }
