@@ -3,7 +3,7 @@
 // the first before the second, is a line alone: ee, its number in one byte, its chunk in four, highest first.
 #![tactic(auto)]
 
-ghost use Rattle.std.specs.Prelude.{◌≡◌, ◌≤◌, length, take, IfOk};
+ghost use Rattle.std.specs.Prelude.{◌≡◌, ◌≤◌, length, take};
 ghost use Rattle.std.specs.Io.{ReadsAtMost};
 ghost use Rattle.diff.specs.Files.{opened_file};
 ghost use Rattle.diff.specs.Steps.{next_after};
@@ -60,94 +60,84 @@ fn open_file(file: &[u8]) -> Opened
 }
 
 // The digits of an entry's own bytes, as stored.
-fn write_own<W: Write>(out: &mut W, file: &[u8], x: Shown) -> io::Result<()> {
+fn write_own<W: Write>(out: &mut W, file: &[u8], x: Shown) {
     let own = x.own;
-    frames::write_digits(out, content::part(file, own.place, own.length))?;
-    Ok(())
+    frames::write_digits(out, content::part(file, own.place, own.length));
 }
 
-fn write_kind<W: Write>(out: &mut W, kind: u8) -> io::Result<()> {
-    frames::write_digits(out, &[kind])?;
-    Ok(())
+fn write_kind<W: Write>(out: &mut W, kind: u8) {
+    frames::write_digits(out, &[kind]);
 }
 
 // The frame of a step: that of a difference, none at the end.
-fn write_step<W: Write>(out: &mut W, file1: &[u8], file2: &[u8], step: Step) -> io::Result<Next>
-    ensures { IfOk result (λ next. next ≡ next_after step) }
+fn write_step<W: Write>(out: &mut W, file1: &[u8], file2: &[u8], step: Step) -> Next
+    ensures { result ≡ next_after step }
 {
     match step {
         Step::First(x, behind) => {
-            write_kind(out, 1)?;
-            write_own(out, file1, x)?;
-            frames::end_frame(out)?;
-            Ok(Next::At(behind))
+            write_kind(out, 1);
+            write_own(out, file1, x);
+            frames::end_frame(out);
+            Next::At(behind)
         }
         Step::Second(y, behind) => {
-            write_kind(out, 2)?;
-            write_own(out, file2, y)?;
-            frames::end_frame(out)?;
-            Ok(Next::At(behind))
+            write_kind(out, 2);
+            write_own(out, file2, y);
+            frames::end_frame(out);
+            Next::At(behind)
         }
         Step::Changed(x, y, behind) => {
-            write_kind(out, 3)?;
-            write_own(out, file1, x)?;
-            write_own(out, file2, y)?;
-            frames::end_frame(out)?;
-            Ok(Next::At(behind))
+            write_kind(out, 3);
+            write_own(out, file1, x);
+            write_own(out, file2, y);
+            frames::end_frame(out);
+            Next::At(behind)
         }
-        Step::End(_) => Ok(Next::Over),
+        Step::End(_) => Next::Over,
         Step::Refused(_, r) => {
-            frames::write_refusal(out, r)?;
-            Ok(Next::Over)
+            frames::write_refusal(out, r);
+            Next::Over
         }
     }
 }
 
 // A frame for each difference.
-fn write_differences<W: Write>(
-    out: &mut W,
-    file1: &[u8],
-    one: Record,
-    file2: &[u8],
-    two: Record,
-) -> io::Result<()> {
+fn write_differences<W: Write>(out: &mut W, file1: &[u8], one: Record, file2: &[u8], two: Record) {
     let mut at = compare::start(one, two);
     loop {
         let step = compare::step(at, file1, one, file2, two);
-        match write_step(out, file1, file2, step)? {
+        match write_step(out, file1, file2, step) {
             Next::At(behind) => {
                 at = behind;
             }
-            Next::Over => return Ok(()),
+            Next::Over => return,
         }
     }
 }
 
 // The second book, beside the first, which opened.
-fn beside<W: Write>(out: &mut W, file1: &[u8], one: Record, file2: &[u8]) -> io::Result<()> {
+fn beside<W: Write>(out: &mut W, file1: &[u8], one: Record, file2: &[u8]) {
     match open_file(file2) {
         Opened::Book(two) => write_differences(out, file1, one, file2, two),
         Opened::Refused(r) => {
-            frames::write_refusal(out, r)?;
-            Ok(())
+            frames::write_refusal(out, r);
         }
     }
 }
 
-fn write_comparison<W: Write>(out: &mut W, file1: &[u8], file2: &[u8]) -> io::Result<()> {
+fn write_comparison<W: Write>(out: &mut W, file1: &[u8], file2: &[u8]) {
     match open_file(file1) {
         Opened::Book(one) => beside(out, file1, one, file2),
         Opened::Refused(r) => {
-            frames::write_refusal(out, r)?;
-            Ok(())
+            frames::write_refusal(out, r);
         }
     }
 }
 
-fn main(rt: HostRuntime) -> io::Result<()> {
+fn main(rt: HostRuntime) {
     let mut first = [0u8; 30001];
     let mut second = [0u8; 30001];
     let m = read_named(&rt, 1, &mut first);
     let n = read_named(&rt, 2, &mut second);
-    write_comparison(&mut rt.stdout(), &first[..m], &second[..n])
+    write_comparison(&mut rt.stdout(), &first[..m], &second[..n]);
 }

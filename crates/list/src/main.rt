@@ -9,30 +9,29 @@ use std::io::Write;
 use walk::{Coming, Walk};
 
 // A frame for each entry, its own bytes as stored.
-fn write_entries<W: Write>(out: &mut W, file: &[u8], book: Record) -> io::Result<()> {
+fn write_entries<W: Write>(out: &mut W, file: &[u8], book: Record) {
     let mut at = Walk::start(book);
     loop {
         match at.peek(file, book) {
             Coming::Entry(e, w) => {
                 let own = report::own_of(file, book, w.chunk, e);
-                frames::write_frame(out, content::part(file, own.place, own.length))?;
+                frames::write_frame(out, content::part(file, own.place, own.length));
                 at = w.after(e);
             }
-            Coming::End => return Ok(()),
+            Coming::End => return,
             Coming::Refused(r) => {
-                frames::write_refusal(out, r)?;
-                return Ok(());
+                frames::write_refusal(out, r);
+                return;
             }
         }
     }
 }
 
-fn write_listing<W: Write>(out: &mut W, file: &[u8]) -> io::Result<()> {
+fn write_listing<W: Write>(out: &mut W, file: &[u8]) {
     match opening::open(file) {
         Opened::Book(book) => write_entries(out, file, book),
         Opened::Refused(r) => {
-            frames::write_refusal(out, r)?;
-            Ok(())
+            frames::write_refusal(out, r);
         }
     }
 }
@@ -42,8 +41,9 @@ fn main(rt: HostRuntime) -> io::Result<()> {
     let mut buf = [0u8; 60001];
     let got = input::fill(&mut rt.stdin(), &mut buf)?;
     if 60000 < got {
-        frames::write_refusal(&mut out, refusals::refuse(29))?;
+        frames::write_refusal(&mut out, refusals::refuse(29));
         return Ok(());
     }
-    write_listing(&mut out, &buf[..got])
+    write_listing(&mut out, &buf[..got]);
+    Ok(())
 }
