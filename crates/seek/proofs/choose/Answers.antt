@@ -22,6 +22,7 @@ use Rattle.seek.specs.declared.Child.{Child}
 use Rattle.seek.specs.declared.Child.TheVariants.{Below}
 use Rattle.seek.proofs.Counts.{spent_in, spent_next, spent_is, spent_fits}
 use Rattle.seek.proofs.Steps.{choose_from, choose_end, choose_unnamed, choose_above, choose_equal, choose_barred, choose_on}
+use Rattle.seek.proofs.choose.Goals.{After-group_for-group, In-Value, After-compare, After-read, In-Value-read}
 use Rattle.seek.proofs.choose.Goals as goal
 
 -- the child of what was chosen, beside the count
@@ -32,6 +33,48 @@ child_from r = record { child = child_of r.hit; count = r.count }
 ended : (r : CountedChild) (best : Child) (h : Hit) (n m : ℕ) (w : CountedHit) → r ≡ record { child = best; count = n } → n ≡ m → best ≡ child_of h
     → record { hit = h; count = m } ≡ w → r ≡ child_from w
 ended r best h n m w e p b q = e ∙ ap₂ (λ (x : Child) (y : ℕ). record { child = x; count = y }) b p ∙ ap child_from q
+
+-- what the code says was compared, and that it fits
+spent_told : (c : After-group_for-group) (left : ℕ) → let a = c.args in
+    c.group_for-group.result.count + (c.group_for-group.result.size - left) ≡ spent_in a.limits Index a.c.now (compared a.name.now) left
+spent_told c left =
+    let a = c.args in
+    spent_is a.limits Index a.c.now (compared a.name.now) _ _ c.group_for-group.ensures.1 c.group_for-group.ensures.2 left
+
+room : (c : After-group_for-group) (left : ℕ) → let a = c.args in left ≤ size_in a.limits a.c.now (group_in a.limits Index a.c.now (compared a.name.now))
+    → (left ≤ c.group_for-group.result.size) × (c.group_for-group.result.size < 65536) × (c.group_for-group.result.count < 65536)
+room c left h =
+    let a = c.args in
+    spent_fits a.limits Index a.c.now (compared a.name.now) _ _ c.group_for-group.ensures.1 c.group_for-group.ensures.2
+    (le_lt a.c.now (λ j. (c.type_inv.c j).fits) 2 count_place) left h
+
+-- the name that was read
+name_is : (c : In-Value) → name_at c.args.c.now c.loop-left.at ≡ Value c.in-Value.n c.in-Value.from
+name_is c = sym c.name_at.ensures ∙ c.in-Value.is
+
+inside : (c : In-Value) → c.in-Value.from + c.in-Value.n ≤ length c.args.c.now
+inside c = (name_next _ _ _ _ (name_is c)).2
+
+-- how the asked name stands to it
+compared_is : (c : After-compare) → let a = c.args in c.compare.result ≡ compared a.name.now (part a.c.now c.in-Value.from c.in-Value.n)
+compared_is c = simp add-sub_cancel_left at c.compare.ensures
+
+-- what was read behind the name
+number_is : (c : In-Value-read) → encint_at c.args.c.now (c.in-Value.from + c.in-Value.n) ≡ Value c.in-Value-read.child c.in-Value-read.next
+number_is c = sym c.read.ensures.number ∙ c.in-Value-read.is
+
+-- an entry whose name is below, with no good child behind it, ends the search with what was best before
+barred_is : (c : After-read) (x : CountedChild) → let a = c.args in let g = c.group_for-group.result in
+    x ≡ record { child = c.loop-left.best; count = g.count + (g.size - (c.loop-left.left - 1)) } → item_at a.limits Index a.c.now c.loop-left.at ≡ Bad
+    → x ≡ child_from (record { hit = choose_in a.limits a.c.now (compared a.name.now); count = cost_in a.limits Index a.c.now (compared a.name.now) })
+barred_is c x e g =
+    let a = c.args in
+    let i = c.loop-left.invariant in
+    let told = spent_is a.limits Index a.c.now (compared a.name.now) _ _ c.group_for-group.ensures.1 c.group_for-group.ensures.2 (c.loop-left.left - 1) in
+    let order : c.compare.result ≡ compared a.name.now (part a.c.now c.in-Value.from c.in-Value.n) = simp add-sub_cancel_left at c.compare.ensures in
+    ended _ _ _ _ _ _ e told i.1
+    (sym (choose_barred a.limits a.c.now (compared a.name.now) i.0 (spent_in a.limits Index a.c.now (compared a.name.now) c.loop-left.left) c.loop-left.left c.loop-left.at _ _ c.loop-left-test.true (sym c.name_at.ensures ∙ c.in-Value.is) _
+    (spent_next a.limits Index a.c.now (compared a.name.now) c.loop-left.left c.loop-left-test.true i.3) (sym order ∙ c.in-Greater.is) g) ∙ i.2)
 
 pub loop-left-init : goal.loop-left-init
 unfolding cost_in
@@ -46,232 +89,96 @@ loop-left-init c = let a = c.args in
     )
 
 pub child_of-requires : goal.child_of-requires
-child_of-requires c =
-    let room : (left : ℕ) → left ≤ c.loop-left.left
-    → (left ≤ c.group_for-group.result.size) × (c.group_for-group.result.size < 65536) × (c.group_for-group.result.count < 65536) =
-    λ left h. let a = c.args in
-    spent_fits a.limits Index a.c.now (compared a.name.now) _ _ c.group_for-group.ensures.1 c.group_for-group.ensures.2
-    (le_lt a.c.now (λ j. (c.type_inv.c j).fits) 2 count_place) left (omega (arith, h, c.loop-left.invariant.3)) in
-    room _ (omega arith)
+child_of-requires c = room (goal.at.child_of-requires c).After-group_for-group _ (omega (arith, c.loop-left.invariant.3))
 
 pub returns-in_default : goal.returns-in_default
 returns-in_default c =
-    let spent_told : (left : ℕ) → let a = c.args in
-    c.group_for-group.result.count + (c.group_for-group.result.size - left) ≡ spent_in a.limits Index a.c.now (compared a.name.now) left =
-    λ left. let a = c.args in
-    spent_is a.limits Index a.c.now (compared a.name.now) _ _ c.group_for-group.ensures.1 c.group_for-group.ensures.2 left in
     let a = c.args in
     let i = c.loop-left.invariant in
-    ended _ _ _ _ _ _ c.child_of.ensures (spent_told c.loop-left.left) i.1
+    ended _ _ _ _ _ _ c.child_of.ensures (spent_told (goal.at.returns-in_default c).After-group_for-group c.loop-left.left) i.1
     (sym (choose_unnamed a.limits a.c.now (compared a.name.now) i.0 (spent_in a.limits Index a.c.now (compared a.name.now) c.loop-left.left) c.loop-left.left c.loop-left.at c.loop-left-test.true (sym c.name_at.ensures ∙ c.in_default.is)) ∙ i.2)
 
 pub overflow_add-behind : goal.overflow_add-behind
-overflow_add-behind c =
-    let name_is : let a = c.args in
-    name_at a.c.now c.loop-left.at ≡ Value c.in-Value.n c.in-Value.from =
-    sym c.name_at.ensures ∙ c.in-Value.is in
-    let inside : c.in-Value.from + c.in-Value.n ≤ length c.args.c.now =
-    (name_next _ _ _ _ (name_is)).2 in
-    omega (arith, inside)
+overflow_add-behind c = omega (arith, inside (goal.at.overflow_add-behind c).In-Value)
 
 pub overflow_sub-left : goal.overflow_sub-left
 overflow_sub-left c = omega arith
 
 pub slice_bounds-compare-count : goal.slice_bounds-compare-count
-slice_bounds-compare-count c =
-    let name_is : let a = c.args in
-    name_at a.c.now c.loop-left.at ≡ Value c.in-Value.n c.in-Value.from =
-    sym c.name_at.ensures ∙ c.in-Value.is in
-    let inside : c.in-Value.from + c.in-Value.n ≤ length c.args.c.now =
-    (name_next _ _ _ _ (name_is)).2 in
-    omega (arith, inside)
+slice_bounds-compare-count c = omega (arith, inside (goal.at.slice_bounds-compare-count c).In-Value)
 
 pub slice_bounds-compare-start : goal.slice_bounds-compare-start
-slice_bounds-compare-start c =
-    let name_is : let a = c.args in
-    name_at a.c.now c.loop-left.at ≡ Value c.in-Value.n c.in-Value.from =
-    sym c.name_at.ensures ∙ c.in-Value.is in
-    let inside : c.in-Value.from + c.in-Value.n ≤ length c.args.c.now =
-    (name_next _ _ _ _ (name_is)).2 in
-    omega (arith, inside)
+slice_bounds-compare-start c = omega (arith, inside (goal.at.slice_bounds-compare-start c).In-Value)
 
 pub slice_bounds-compare-end : goal.slice_bounds-compare-end
-slice_bounds-compare-end c =
-    let name_is : let a = c.args in
-    name_at a.c.now c.loop-left.at ≡ Value c.in-Value.n c.in-Value.from =
-    sym c.name_at.ensures ∙ c.in-Value.is in
-    let inside : c.in-Value.from + c.in-Value.n ≤ length c.args.c.now =
-    (name_next _ _ _ _ (name_is)).2 in
-    omega (arith, inside)
+slice_bounds-compare-end c = omega (arith, inside (goal.at.slice_bounds-compare-end c).In-Value)
 
 pub child_of-requires-in-Less : goal.child_of-requires-in-Less
-child_of-requires-in-Less c =
-    let room : (left : ℕ) → left ≤ c.loop-left.left
-    → (left ≤ c.group_for-group.result.size) × (c.group_for-group.result.size < 65536) × (c.group_for-group.result.count < 65536) =
-    λ left h. let a = c.args in
-    spent_fits a.limits Index a.c.now (compared a.name.now) _ _ c.group_for-group.ensures.1 c.group_for-group.ensures.2
-    (le_lt a.c.now (λ j. (c.type_inv.c j).fits) 2 count_place) left (omega (arith, h, c.loop-left.invariant.3)) in
-    room _ (omega arith)
+child_of-requires-in-Less c = room (goal.at.child_of-requires-in-Less c).After-group_for-group _ (omega (arith, c.loop-left.invariant.3))
 
 pub returns-in-Less : goal.returns-in-Less
 returns-in-Less c =
-    let spent_told : (left : ℕ) → let a = c.args in
-    c.group_for-group.result.count + (c.group_for-group.result.size - left) ≡ spent_in a.limits Index a.c.now (compared a.name.now) left =
-    λ left. let a = c.args in
-    spent_is a.limits Index a.c.now (compared a.name.now) _ _ c.group_for-group.ensures.1 c.group_for-group.ensures.2 left in
-    let name_is : let a = c.args in
-    name_at a.c.now c.loop-left.at ≡ Value c.in-Value.n c.in-Value.from =
-    sym c.name_at.ensures ∙ c.in-Value.is in
-    let compared_is : let a = c.args in
-    c.compare.result ≡ compared a.name.now (part a.c.now c.in-Value.from c.in-Value.n) =
-    simp add-sub_cancel_left at c.compare.ensures in
     let a = c.args in
     let i = c.loop-left.invariant in
-    ended _ _ _ _ _ _ c.child_of-in-Less.ensures (spent_told (c.loop-left.left - 1)) i.1
-    (sym (choose_above a.limits a.c.now (compared a.name.now) i.0 (spent_in a.limits Index a.c.now (compared a.name.now) c.loop-left.left) c.loop-left.left c.loop-left.at _ _ c.loop-left-test.true (name_is) _
-    (spent_next a.limits Index a.c.now (compared a.name.now) c.loop-left.left c.loop-left-test.true i.3) (sym (compared_is) ∙ c.in-Less.is)) ∙ i.2)
+    ended _ _ _ _ _ _ c.child_of-in-Less.ensures (spent_told (goal.at.returns-in-Less c).After-group_for-group (c.loop-left.left - 1)) i.1
+    (sym (choose_above a.limits a.c.now (compared a.name.now) i.0 (spent_in a.limits Index a.c.now (compared a.name.now) c.loop-left.left) c.loop-left.left c.loop-left.at _ _ c.loop-left-test.true (name_is (goal.at.returns-in-Less c).In-Value) _
+    (spent_next a.limits Index a.c.now (compared a.name.now) c.loop-left.left c.loop-left-test.true i.3) (sym (compared_is (goal.at.returns-in-Less c).After-compare) ∙ c.in-Less.is)) ∙ i.2)
 
 pub child_of-requires-in-Equal : goal.child_of-requires-in-Equal
-child_of-requires-in-Equal c =
-    let room : (left : ℕ) → left ≤ c.loop-left.left
-    → (left ≤ c.group_for-group.result.size) × (c.group_for-group.result.size < 65536) × (c.group_for-group.result.count < 65536) =
-    λ left h. let a = c.args in
-    spent_fits a.limits Index a.c.now (compared a.name.now) _ _ c.group_for-group.ensures.1 c.group_for-group.ensures.2
-    (le_lt a.c.now (λ j. (c.type_inv.c j).fits) 2 count_place) left (omega (arith, h, c.loop-left.invariant.3)) in
-    room _ (omega arith)
+child_of-requires-in-Equal c = room (goal.at.child_of-requires-in-Equal c).After-group_for-group _ (omega (arith, c.loop-left.invariant.3))
 
 pub returns-in-Equal : goal.returns-in-Equal
 returns-in-Equal c =
-    let spent_told : (left : ℕ) → let a = c.args in
-    c.group_for-group.result.count + (c.group_for-group.result.size - left) ≡ spent_in a.limits Index a.c.now (compared a.name.now) left =
-    λ left. let a = c.args in
-    spent_is a.limits Index a.c.now (compared a.name.now) _ _ c.group_for-group.ensures.1 c.group_for-group.ensures.2 left in
-    let name_is : let a = c.args in
-    name_at a.c.now c.loop-left.at ≡ Value c.in-Value.n c.in-Value.from =
-    sym c.name_at.ensures ∙ c.in-Value.is in
-    let compared_is : let a = c.args in
-    c.compare.result ≡ compared a.name.now (part a.c.now c.in-Value.from c.in-Value.n) =
-    simp add-sub_cancel_left at c.compare.ensures in
     let a = c.args in
     let i = c.loop-left.invariant in
-    let e = choose_equal a.limits a.c.now (compared a.name.now) i.0 (spent_in a.limits Index a.c.now (compared a.name.now) c.loop-left.left) c.loop-left.left c.loop-left.at _ _ c.loop-left-test.true (name_is) _
-    (spent_next a.limits Index a.c.now (compared a.name.now) c.loop-left.left c.loop-left-test.true i.3) (sym (compared_is) ∙ c.in-Equal.is) in
+    let e = choose_equal a.limits a.c.now (compared a.name.now) i.0 (spent_in a.limits Index a.c.now (compared a.name.now) c.loop-left.left) c.loop-left.left c.loop-left.at _ _ c.loop-left-test.true (name_is (goal.at.returns-in-Equal c).In-Value) _
+    (spent_next a.limits Index a.c.now (compared a.name.now) c.loop-left.left c.loop-left-test.true i.3) (sym (compared_is (goal.at.returns-in-Equal c).After-compare) ∙ c.in-Equal.is) in
     c.child_of-in-Equal.ensures
     ∙ ap₂ (λ (x : Child) (m : ℕ). record { child = x; count = m })
-    (c.child_at.ensures ∙ ap (λ x. with_item (index_at a.limits.count a.c.now c.loop-left.at) x (λ e. Below e.child)) i.1 ∙ e.0) (spent_told (c.loop-left.left - 1) ∙ e.1)
+    (c.child_at.ensures ∙ ap (λ x. with_item (index_at a.limits.count a.c.now c.loop-left.at) x (λ e. Below e.child)) i.1 ∙ e.0) (spent_told (goal.at.returns-in-Equal c).After-group_for-group (c.loop-left.left - 1) ∙ e.1)
     ∙ ap child_from i.2
 
 pub child_of-requires-in_default-read : goal.child_of-requires-in_default-read
-child_of-requires-in_default-read c =
-    let room : (left : ℕ) → left ≤ c.loop-left.left
-    → (left ≤ c.group_for-group.result.size) × (c.group_for-group.result.size < 65536) × (c.group_for-group.result.count < 65536) =
-    λ left h. let a = c.args in
-    spent_fits a.limits Index a.c.now (compared a.name.now) _ _ c.group_for-group.ensures.1 c.group_for-group.ensures.2
-    (le_lt a.c.now (λ j. (c.type_inv.c j).fits) 2 count_place) left (omega (arith, h, c.loop-left.invariant.3)) in
-    room _ (omega arith)
+child_of-requires-in_default-read c = room (goal.at.child_of-requires-in_default-read c).After-group_for-group _ (omega (arith, c.loop-left.invariant.3))
 
 pub returns-in_default-read : goal.returns-in_default-read
 returns-in_default-read c =
-    let spent_told : (left : ℕ) → let a = c.args in
-    c.group_for-group.result.count + (c.group_for-group.result.size - left) ≡ spent_in a.limits Index a.c.now (compared a.name.now) left =
-    λ left. let a = c.args in
-    spent_is a.limits Index a.c.now (compared a.name.now) _ _ c.group_for-group.ensures.1 c.group_for-group.ensures.2 left in
-    let name_is : let a = c.args in
-    name_at a.c.now c.loop-left.at ≡ Value c.in-Value.n c.in-Value.from =
-    sym c.name_at.ensures ∙ c.in-Value.is in
-    let compared_is : let a = c.args in
-    c.compare.result ≡ compared a.name.now (part a.c.now c.in-Value.from c.in-Value.n) =
-    simp add-sub_cancel_left at c.compare.ensures in
-    let barred_is : (x : CountedChild) → let a = c.args in let g = c.group_for-group.result in
-    x ≡ record { child = c.loop-left.best; count = g.count + (g.size - (c.loop-left.left - 1)) } → item_at a.limits Index a.c.now c.loop-left.at ≡ Bad
-    → x ≡ child_from (record { hit = choose_in a.limits a.c.now (compared a.name.now); count = cost_in a.limits Index a.c.now (compared a.name.now) }) =
-    λ x e g. let a = c.args in
-    let i = c.loop-left.invariant in
-    ended _ _ _ _ _ _ e (spent_told (c.loop-left.left - 1)) i.1
-    (sym (choose_barred a.limits a.c.now (compared a.name.now) i.0 (spent_in a.limits Index a.c.now (compared a.name.now) c.loop-left.left) c.loop-left.left c.loop-left.at _ _ c.loop-left-test.true (name_is) _
-    (spent_next a.limits Index a.c.now (compared a.name.now) c.loop-left.left c.loop-left-test.true i.3) (sym (compared_is) ∙ c.in-Greater.is) g) ∙ i.2) in
     let a = c.args in
-    barred_is _ c.child_of-in_default-read.ensures
-    (index_broken a.limits a.c.now c.loop-left.at _ _ (name_is) (sym c.read.ensures.number ∙ c.in_default-read.is))
+    barred_is (goal.at.returns-in_default-read c).After-read _ c.child_of-in_default-read.ensures
+    (index_broken a.limits a.c.now c.loop-left.at _ _ (name_is (goal.at.returns-in_default-read c).In-Value) (sym c.read.ensures.number ∙ c.in_default-read.is))
 
 pub child_of-requires-then-limits-child : goal.child_of-requires-then-limits-child
-child_of-requires-then-limits-child c =
-    let room : (left : ℕ) → left ≤ c.loop-left.left
-    → (left ≤ c.group_for-group.result.size) × (c.group_for-group.result.size < 65536) × (c.group_for-group.result.count < 65536) =
-    λ left h. let a = c.args in
-    spent_fits a.limits Index a.c.now (compared a.name.now) _ _ c.group_for-group.ensures.1 c.group_for-group.ensures.2
-    (le_lt a.c.now (λ j. (c.type_inv.c j).fits) 2 count_place) left (omega (arith, h, c.loop-left.invariant.3)) in
-    room _ (omega arith)
+child_of-requires-then-limits-child c = room (goal.at.child_of-requires-then-limits-child c).After-group_for-group _ (omega (arith, c.loop-left.invariant.3))
 
 pub returns-then-limits-child : goal.returns-then-limits-child
 returns-then-limits-child c =
-    let spent_told : (left : ℕ) → let a = c.args in
-    c.group_for-group.result.count + (c.group_for-group.result.size - left) ≡ spent_in a.limits Index a.c.now (compared a.name.now) left =
-    λ left. let a = c.args in
-    spent_is a.limits Index a.c.now (compared a.name.now) _ _ c.group_for-group.ensures.1 c.group_for-group.ensures.2 left in
-    let name_is : let a = c.args in
-    name_at a.c.now c.loop-left.at ≡ Value c.in-Value.n c.in-Value.from =
-    sym c.name_at.ensures ∙ c.in-Value.is in
-    let compared_is : let a = c.args in
-    c.compare.result ≡ compared a.name.now (part a.c.now c.in-Value.from c.in-Value.n) =
-    simp add-sub_cancel_left at c.compare.ensures in
-    let number_is : let a = c.args in
-    encint_at a.c.now (c.in-Value.from + c.in-Value.n) ≡ Value c.in-Value-read.child c.in-Value-read.next =
-    sym c.read.ensures.number ∙ c.in-Value-read.is in
-    let barred_is : (x : CountedChild) → let a = c.args in let g = c.group_for-group.result in
-    x ≡ record { child = c.loop-left.best; count = g.count + (g.size - (c.loop-left.left - 1)) } → item_at a.limits Index a.c.now c.loop-left.at ≡ Bad
-    → x ≡ child_from (record { hit = choose_in a.limits a.c.now (compared a.name.now); count = cost_in a.limits Index a.c.now (compared a.name.now) }) =
-    λ x e g. let a = c.args in
-    let i = c.loop-left.invariant in
-    ended _ _ _ _ _ _ e (spent_told (c.loop-left.left - 1)) i.1
-    (sym (choose_barred a.limits a.c.now (compared a.name.now) i.0 (spent_in a.limits Index a.c.now (compared a.name.now) c.loop-left.left) c.loop-left.left c.loop-left.at _ _ c.loop-left-test.true (name_is) _
-    (spent_next a.limits Index a.c.now (compared a.name.now) c.loop-left.left c.loop-left-test.true i.3) (sym (compared_is) ∙ c.in-Greater.is) g) ∙ i.2) in
     let a = c.args in
-    barred_is _ c.child_of-then-limits-child.ensures (index_wide a.limits a.c.now c.loop-left.at _ _ (name_is) _ _ (number_is) c.if-limits-child.true)
+    barred_is (goal.at.returns-then-limits-child c).After-read _ c.child_of-then-limits-child.ensures (index_wide a.limits a.c.now c.loop-left.at _ _ (name_is (goal.at.returns-then-limits-child c).In-Value) _ _ (number_is (goal.at.returns-then-limits-child c).In-Value-read) c.if-limits-child.true)
 
 pub loop-left-smaller : goal.loop-left-smaller
 loop-left-smaller c = omega arith
 
 pub loop-left-preserved : goal.loop-left-preserved
 loop-left-preserved c =
-    let name_is : let a = c.args in
-    name_at a.c.now c.loop-left.at ≡ Value c.in-Value.n c.in-Value.from =
-    sym c.name_at.ensures ∙ c.in-Value.is in
-    let compared_is : let a = c.args in
-    c.compare.result ≡ compared a.name.now (part a.c.now c.in-Value.from c.in-Value.n) =
-    simp add-sub_cancel_left at c.compare.ensures in
-    let number_is : let a = c.args in
-    encint_at a.c.now (c.in-Value.from + c.in-Value.n) ≡ Value c.in-Value-read.child c.in-Value-read.next =
-    sym c.read.ensures.number ∙ c.in-Value-read.is in
     let read_is : let a = c.args in
     item_at a.limits Index a.c.now c.loop-left.at
     ≡ Good (record { at = c.loop-left.at; start = c.in-Value.from; len = c.in-Value.n; section = 0; offset = 0; size = 0; child = c.in-Value-read.child; next = c.in-Value-read.next }) =
     let a = c.args in
-    index_whole a.limits a.c.now c.loop-left.at _ _ (name_is) _ _ (number_is) c.if-limits-child.false in
+    index_whole a.limits a.c.now c.loop-left.at _ _ (name_is (goal.at.loop-left-preserved c).In-Value) _ _ (number_is (goal.at.loop-left-preserved c).In-Value-read) c.if-limits-child.false in
     let a = c.args in
     let i = c.loop-left.invariant in (
       At (record { at = c.loop-left.at; start = c.in-Value.from; len = c.in-Value.n; section = 0; offset = 0; size = 0; child = c.in-Value-read.child; next = c.in-Value-read.next }),
       refl,
-      sym (choose_on a.limits a.c.now (compared a.name.now) i.0 (spent_in a.limits Index a.c.now (compared a.name.now) c.loop-left.left) c.loop-left.left c.loop-left.at _ _ c.loop-left-test.true (name_is) _
-          (spent_next a.limits Index a.c.now (compared a.name.now) c.loop-left.left c.loop-left-test.true i.3) (sym (compared_is) ∙ c.in-Greater.is) _ (read_is)) ∙ i.2,
+      sym (choose_on a.limits a.c.now (compared a.name.now) i.0 (spent_in a.limits Index a.c.now (compared a.name.now) c.loop-left.left) c.loop-left.left c.loop-left.at _ _ c.loop-left-test.true (name_is (goal.at.loop-left-preserved c).In-Value) _
+          (spent_next a.limits Index a.c.now (compared a.name.now) c.loop-left.left c.loop-left-test.true i.3) (sym (compared_is (goal.at.loop-left-preserved c).After-compare) ∙ c.in-Greater.is) _ read_is) ∙ i.2,
       omega (arith, i.3),
     )
 
 pub child_of-requires-2 : goal.child_of-requires-2
-child_of-requires-2 c =
-    let room : (left : ℕ) → left ≤ c.loop-left.left
-    → (left ≤ c.group_for-group.result.size) × (c.group_for-group.result.size < 65536) × (c.group_for-group.result.count < 65536) =
-    λ left h. let a = c.args in
-    spent_fits a.limits Index a.c.now (compared a.name.now) _ _ c.group_for-group.ensures.1 c.group_for-group.ensures.2
-    (le_lt a.c.now (λ j. (c.type_inv.c j).fits) 2 count_place) left (omega (arith, h, c.loop-left.invariant.3)) in
-    room _ (omega arith)
+child_of-requires-2 c = room (goal.at.child_of-requires-2 c).After-group_for-group _ (omega (arith, c.loop-left.invariant.3))
 
 pub returns : goal.returns
 returns c =
-    let spent_told : (left : ℕ) → let a = c.args in
-    c.group_for-group.result.count + (c.group_for-group.result.size - left) ≡ spent_in a.limits Index a.c.now (compared a.name.now) left =
-    λ left. let a = c.args in
-    spent_is a.limits Index a.c.now (compared a.name.now) _ _ c.group_for-group.ensures.1 c.group_for-group.ensures.2 left in
     let a = c.args in
     let i = c.loop-left.invariant in
-    ended _ _ _ _ _ _ c.child_of-2.ensures (spent_told c.loop-left.left) i.1 (sym (choose_end a.limits a.c.now (compared a.name.now) i.0 (spent_in a.limits Index a.c.now (compared a.name.now) c.loop-left.left) c.loop-left.left c.loop-left.at c.loop-left-test.false) ∙ i.2)
+    ended _ _ _ _ _ _ c.child_of-2.ensures (spent_told (goal.at.returns c).After-group_for-group c.loop-left.left) i.1 (sym (choose_end a.limits a.c.now (compared a.name.now) i.0 (spent_in a.limits Index a.c.now (compared a.name.now) c.loop-left.left) c.loop-left.left c.loop-left.at c.loop-left-test.false) ∙ i.2)

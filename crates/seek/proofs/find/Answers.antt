@@ -15,11 +15,43 @@ use Rattle.seek.specs.Count.{cost_in}
 use Rattle.seek.specs.declared.CountedHit.{CountedHit}
 use Rattle.seek.proofs.Counts.{spent_in, spent_next, spent_is, spent_fits}
 use Rattle.seek.proofs.Steps.{find_from, find_end, find_bad, find_above, find_here, find_on}
+use Rattle.seek.proofs.find.Goals.{After-group_for-group, In_default, In-Good, After-compare}
 use Rattle.seek.proofs.find.Goals as goal
 
 -- the search ends
 ended : (n m : ℕ) (h : Hit) (w : CountedHit) → n ≡ m → record { hit = h; count = m } ≡ w → record { hit = h; count = n } ≡ w
 ended n m h w p q = ap (λ (x : ℕ). record { hit = h; count = x }) p ∙ q
+
+-- what the code says was compared, and that it fits
+spent_told : (c : After-group_for-group) (left : ℕ) → let a = c.args in
+    c.group_for-group.result.count + (c.group_for-group.result.size - left) ≡ spent_in a.limits Listing a.c.now (compared a.name.now) left
+spent_told c left =
+    let a = c.args in
+    spent_is a.limits Listing a.c.now (compared a.name.now) _ _ c.group_for-group.ensures.1 c.group_for-group.ensures.2 left
+
+room : (c : After-group_for-group) (left : ℕ) → let a = c.args in left ≤ size_in a.limits a.c.now (group_in a.limits Listing a.c.now (compared a.name.now))
+    → (left ≤ c.group_for-group.result.size) × (c.group_for-group.result.size < 65536) × (c.group_for-group.result.count < 65536)
+room c left h =
+    let a = c.args in
+    spent_fits a.limits Listing a.c.now (compared a.name.now) _ _ c.group_for-group.ensures.1 c.group_for-group.ensures.2
+    (le_lt a.c.now (λ j. (c.type_inv.c j).fits) 2 count_place) left h
+
+-- what was read is an entry, or is none
+read_is : (c : In-Good) → let a = c.args in item_at a.limits Listing a.c.now c.loop-left.at ≡ Good c.in-Good.e
+unfolding item_at
+read_is c = sym c.listing_at.ensures ∙ c.in-Good.is
+
+read_bad : (c : In_default) → let a = c.args in item_at a.limits Listing a.c.now c.loop-left.at ≡ Bad
+unfolding item_at
+read_bad c = sym c.listing_at.ensures ∙ c.in_default.is
+
+-- the name lies inside the chunk
+name_inside : (c : In-Good) → Inside c.args.c.now c.loop-left.at c.in-Good.e
+name_inside c = item_inside c.args.limits Listing c.args.c.now c.loop-left.at c.in-Good.e (read_is c)
+
+-- how the asked name stands to it
+compared_is : (c : After-compare) → let a = c.args in c.compare.result ≡ compared a.name.now (name_of a.c.now c.in-Good.e)
+compared_is c = simp add-sub_cancel_left at c.compare.ensures
 
 pub loop-left-init : goal.loop-left-init
 unfolding cost_in
@@ -32,161 +64,68 @@ loop-left-init c = let a = c.args in
     )
 
 pub spent-requires : goal.spent-requires
-spent-requires c =
-    let room : (left : ℕ) → left ≤ c.loop-left.left
-    → (left ≤ c.group_for-group.result.size) × (c.group_for-group.result.size < 65536) × (c.group_for-group.result.count < 65536) =
-    λ left h. let a = c.args in
-    spent_fits a.limits Listing a.c.now (compared a.name.now) _ _ c.group_for-group.ensures.1 c.group_for-group.ensures.2
-    (le_lt a.c.now (λ j. (c.type_inv.c j).fits) 2 count_place) left (omega (arith, h, c.loop-left.invariant.0)) in
-    room _ (omega arith)
+spent-requires c = room (goal.at.spent-requires c).After-group_for-group _ (omega (arith, c.loop-left.invariant.0))
 
 pub returns-in_default : goal.returns-in_default
-unfolding item_at
 returns-in_default c =
-    let spent_told : (left : ℕ) → let a = c.args in
-    c.group_for-group.result.count + (c.group_for-group.result.size - left) ≡ spent_in a.limits Listing a.c.now (compared a.name.now) left =
-    λ left. let a = c.args in
-    spent_is a.limits Listing a.c.now (compared a.name.now) _ _ c.group_for-group.ensures.1 c.group_for-group.ensures.2 left in
-    let read_bad : let a = c.args in
-    item_at a.limits Listing a.c.now c.loop-left.at ≡ Bad =
-    sym c.listing_at.ensures ∙ c.in_default.is in
     let a = c.args in
-    ended _ _ Nothing _ (c.spent.ensures ∙ spent_told c.loop-left.left)
-    (sym (find_bad a.limits a.c.now (compared a.name.now) (spent_in a.limits Listing a.c.now (compared a.name.now) c.loop-left.left) c.loop-left.left c.loop-left.at c.loop-left-test.true (read_bad)) ∙ c.loop-left.invariant.1)
+    ended _ _ Nothing _ (c.spent.ensures ∙ spent_told (goal.at.returns-in_default c).After-group_for-group c.loop-left.left)
+    (sym (find_bad a.limits a.c.now (compared a.name.now) (spent_in a.limits Listing a.c.now (compared a.name.now) c.loop-left.left) c.loop-left.left c.loop-left.at c.loop-left-test.true (read_bad (goal.at.returns-in_default c).In_default)) ∙ c.loop-left.invariant.1)
 
 pub overflow_sub-left : goal.overflow_sub-left
 overflow_sub-left c = omega arith
 
 pub overflow_add-start : goal.overflow_add-start
-unfolding item_at
-overflow_add-start c =
-    let read_is : let a = c.args in
-    item_at a.limits Listing a.c.now c.loop-left.at ≡ Good c.in-Good.e =
-    sym c.listing_at.ensures ∙ c.in-Good.is in
-    let name_inside : Inside c.args.c.now c.loop-left.at c.in-Good.e =
-    item_inside c.args.limits Listing c.args.c.now c.loop-left.at c.in-Good.e read_is in
-    omega (arith, (name_inside).name)
+overflow_add-start c = omega (arith, (name_inside (goal.at.overflow_add-start c).In-Good).name)
 
 pub slice_bounds-compare-count : goal.slice_bounds-compare-count
-unfolding item_at
-slice_bounds-compare-count c =
-    let read_is : let a = c.args in
-    item_at a.limits Listing a.c.now c.loop-left.at ≡ Good c.in-Good.e =
-    sym c.listing_at.ensures ∙ c.in-Good.is in
-    let name_inside : Inside c.args.c.now c.loop-left.at c.in-Good.e =
-    item_inside c.args.limits Listing c.args.c.now c.loop-left.at c.in-Good.e read_is in
-    omega (arith, (name_inside).name)
+slice_bounds-compare-count c = omega (arith, (name_inside (goal.at.slice_bounds-compare-count c).In-Good).name)
 
 pub slice_bounds-compare-start : goal.slice_bounds-compare-start
-unfolding item_at
-slice_bounds-compare-start c =
-    let read_is : let a = c.args in
-    item_at a.limits Listing a.c.now c.loop-left.at ≡ Good c.in-Good.e =
-    sym c.listing_at.ensures ∙ c.in-Good.is in
-    let name_inside : Inside c.args.c.now c.loop-left.at c.in-Good.e =
-    item_inside c.args.limits Listing c.args.c.now c.loop-left.at c.in-Good.e read_is in
-    omega (arith, (name_inside).name)
+slice_bounds-compare-start c = omega (arith, (name_inside (goal.at.slice_bounds-compare-start c).In-Good).name)
 
 pub slice_bounds-compare-end : goal.slice_bounds-compare-end
-unfolding item_at
-slice_bounds-compare-end c =
-    let read_is : let a = c.args in
-    item_at a.limits Listing a.c.now c.loop-left.at ≡ Good c.in-Good.e =
-    sym c.listing_at.ensures ∙ c.in-Good.is in
-    let name_inside : Inside c.args.c.now c.loop-left.at c.in-Good.e =
-    item_inside c.args.limits Listing c.args.c.now c.loop-left.at c.in-Good.e read_is in
-    omega (arith, (name_inside).name)
+slice_bounds-compare-end c = omega (arith, (name_inside (goal.at.slice_bounds-compare-end c).In-Good).name)
 
 pub spent-requires-in-Less : goal.spent-requires-in-Less
-spent-requires-in-Less c =
-    let room : (left : ℕ) → left ≤ c.loop-left.left
-    → (left ≤ c.group_for-group.result.size) × (c.group_for-group.result.size < 65536) × (c.group_for-group.result.count < 65536) =
-    λ left h. let a = c.args in
-    spent_fits a.limits Listing a.c.now (compared a.name.now) _ _ c.group_for-group.ensures.1 c.group_for-group.ensures.2
-    (le_lt a.c.now (λ j. (c.type_inv.c j).fits) 2 count_place) left (omega (arith, h, c.loop-left.invariant.0)) in
-    room _ (omega arith)
+spent-requires-in-Less c = room (goal.at.spent-requires-in-Less c).After-group_for-group _ (omega (arith, c.loop-left.invariant.0))
 
 pub returns-in-Less : goal.returns-in-Less
-unfolding item_at
 returns-in-Less c =
-    let spent_told : (left : ℕ) → let a = c.args in
-    c.group_for-group.result.count + (c.group_for-group.result.size - left) ≡ spent_in a.limits Listing a.c.now (compared a.name.now) left =
-    λ left. let a = c.args in
-    spent_is a.limits Listing a.c.now (compared a.name.now) _ _ c.group_for-group.ensures.1 c.group_for-group.ensures.2 left in
-    let read_is : let a = c.args in
-    item_at a.limits Listing a.c.now c.loop-left.at ≡ Good c.in-Good.e =
-    sym c.listing_at.ensures ∙ c.in-Good.is in
-    let compared_is : let a = c.args in
-    c.compare.result ≡ compared a.name.now (name_of a.c.now c.in-Good.e) =
-    simp add-sub_cancel_left at c.compare.ensures in
     let a = c.args in
     let t = c.loop-left-test.true in
-    ended _ _ (Nothing) _ (c.spent-in-Less.ensures ∙ spent_told (c.loop-left.left - 1))
-    (sym (find_above a.limits a.c.now (compared a.name.now) (spent_in a.limits Listing a.c.now (compared a.name.now) c.loop-left.left) c.loop-left.left c.loop-left.at c.in-Good.e t (read_is) _
-    (spent_next a.limits Listing a.c.now (compared a.name.now) c.loop-left.left t c.loop-left.invariant.0) (sym (compared_is) ∙ c.in-Less.is)) ∙ c.loop-left.invariant.1)
+    ended _ _ Nothing _ (c.spent-in-Less.ensures ∙ spent_told (goal.at.returns-in-Less c).After-group_for-group (c.loop-left.left - 1))
+    (sym (find_above a.limits a.c.now (compared a.name.now) (spent_in a.limits Listing a.c.now (compared a.name.now) c.loop-left.left) c.loop-left.left c.loop-left.at c.in-Good.e t (read_is (goal.at.returns-in-Less c).In-Good) _
+    (spent_next a.limits Listing a.c.now (compared a.name.now) c.loop-left.left t c.loop-left.invariant.0) (sym (compared_is (goal.at.returns-in-Less c).After-compare) ∙ c.in-Less.is)) ∙ c.loop-left.invariant.1)
 
 pub spent-requires-in-Equal : goal.spent-requires-in-Equal
-spent-requires-in-Equal c =
-    let room : (left : ℕ) → left ≤ c.loop-left.left
-    → (left ≤ c.group_for-group.result.size) × (c.group_for-group.result.size < 65536) × (c.group_for-group.result.count < 65536) =
-    λ left h. let a = c.args in
-    spent_fits a.limits Listing a.c.now (compared a.name.now) _ _ c.group_for-group.ensures.1 c.group_for-group.ensures.2
-    (le_lt a.c.now (λ j. (c.type_inv.c j).fits) 2 count_place) left (omega (arith, h, c.loop-left.invariant.0)) in
-    room _ (omega arith)
+spent-requires-in-Equal c = room (goal.at.spent-requires-in-Equal c).After-group_for-group _ (omega (arith, c.loop-left.invariant.0))
 
 pub returns-in-Equal : goal.returns-in-Equal
-unfolding item_at
 returns-in-Equal c =
-    let spent_told : (left : ℕ) → let a = c.args in
-    c.group_for-group.result.count + (c.group_for-group.result.size - left) ≡ spent_in a.limits Listing a.c.now (compared a.name.now) left =
-    λ left. let a = c.args in
-    spent_is a.limits Listing a.c.now (compared a.name.now) _ _ c.group_for-group.ensures.1 c.group_for-group.ensures.2 left in
-    let read_is : let a = c.args in
-    item_at a.limits Listing a.c.now c.loop-left.at ≡ Good c.in-Good.e =
-    sym c.listing_at.ensures ∙ c.in-Good.is in
-    let compared_is : let a = c.args in
-    c.compare.result ≡ compared a.name.now (name_of a.c.now c.in-Good.e) =
-    simp add-sub_cancel_left at c.compare.ensures in
     let a = c.args in
     let t = c.loop-left-test.true in
-    ended _ _ (At c.in-Good.e) _ (c.spent-in-Equal.ensures ∙ spent_told (c.loop-left.left - 1))
-    (sym (find_here a.limits a.c.now (compared a.name.now) (spent_in a.limits Listing a.c.now (compared a.name.now) c.loop-left.left) c.loop-left.left c.loop-left.at c.in-Good.e t (read_is) _
-    (spent_next a.limits Listing a.c.now (compared a.name.now) c.loop-left.left t c.loop-left.invariant.0) (sym (compared_is) ∙ c.in-Equal.is)) ∙ c.loop-left.invariant.1)
+    ended _ _ (At c.in-Good.e) _ (c.spent-in-Equal.ensures ∙ spent_told (goal.at.returns-in-Equal c).After-group_for-group (c.loop-left.left - 1))
+    (sym (find_here a.limits a.c.now (compared a.name.now) (spent_in a.limits Listing a.c.now (compared a.name.now) c.loop-left.left) c.loop-left.left c.loop-left.at c.in-Good.e t (read_is (goal.at.returns-in-Equal c).In-Good) _
+    (spent_next a.limits Listing a.c.now (compared a.name.now) c.loop-left.left t c.loop-left.invariant.0) (sym (compared_is (goal.at.returns-in-Equal c).After-compare) ∙ c.in-Equal.is)) ∙ c.loop-left.invariant.1)
 
 pub loop-left-smaller : goal.loop-left-smaller
 loop-left-smaller c = omega arith
 
 pub loop-left-preserved : goal.loop-left-preserved
-unfolding item_at
 loop-left-preserved c =
-    let read_is : let a = c.args in
-    item_at a.limits Listing a.c.now c.loop-left.at ≡ Good c.in-Good.e =
-    sym c.listing_at.ensures ∙ c.in-Good.is in
-    let compared_is : let a = c.args in
-    c.compare.result ≡ compared a.name.now (name_of a.c.now c.in-Good.e) =
-    simp add-sub_cancel_left at c.compare.ensures in
     let a = c.args in
     let t = c.loop-left-test.true in (
       omega (arith, c.loop-left.invariant.0),
-      sym (find_on a.limits a.c.now (compared a.name.now) (spent_in a.limits Listing a.c.now (compared a.name.now) c.loop-left.left) c.loop-left.left c.loop-left.at c.in-Good.e t (read_is) _
-          (spent_next a.limits Listing a.c.now (compared a.name.now) c.loop-left.left t c.loop-left.invariant.0) (sym (compared_is) ∙ c.in-Greater.is)) ∙ c.loop-left.invariant.1,
+      sym (find_on a.limits a.c.now (compared a.name.now) (spent_in a.limits Listing a.c.now (compared a.name.now) c.loop-left.left) c.loop-left.left c.loop-left.at c.in-Good.e t (read_is (goal.at.loop-left-preserved c).In-Good) _
+          (spent_next a.limits Listing a.c.now (compared a.name.now) c.loop-left.left t c.loop-left.invariant.0) (sym (compared_is (goal.at.loop-left-preserved c).After-compare) ∙ c.in-Greater.is)) ∙ c.loop-left.invariant.1,
     )
 
 pub spent-requires-2 : goal.spent-requires-2
-spent-requires-2 c =
-    let room : (left : ℕ) → left ≤ c.loop-left.left
-    → (left ≤ c.group_for-group.result.size) × (c.group_for-group.result.size < 65536) × (c.group_for-group.result.count < 65536) =
-    λ left h. let a = c.args in
-    spent_fits a.limits Listing a.c.now (compared a.name.now) _ _ c.group_for-group.ensures.1 c.group_for-group.ensures.2
-    (le_lt a.c.now (λ j. (c.type_inv.c j).fits) 2 count_place) left (omega (arith, h, c.loop-left.invariant.0)) in
-    room _ (omega arith)
+spent-requires-2 c = room (goal.at.spent-requires-2 c).After-group_for-group _ (omega (arith, c.loop-left.invariant.0))
 
 pub returns : goal.returns
 returns c =
-    let spent_told : (left : ℕ) → let a = c.args in
-    c.group_for-group.result.count + (c.group_for-group.result.size - left) ≡ spent_in a.limits Listing a.c.now (compared a.name.now) left =
-    λ left. let a = c.args in
-    spent_is a.limits Listing a.c.now (compared a.name.now) _ _ c.group_for-group.ensures.1 c.group_for-group.ensures.2 left in
     let a = c.args in
-    ended _ _ Nothing _ (c.spent-2.ensures ∙ spent_told c.loop-left.left)
+    ended _ _ Nothing _ (c.spent-2.ensures ∙ spent_told (goal.at.returns c).After-group_for-group c.loop-left.left)
     (sym (find_end a.limits a.c.now (compared a.name.now) (spent_in a.limits Listing a.c.now (compared a.name.now) c.loop-left.left) c.loop-left.left c.loop-left.at c.loop-left-test.false) ∙ c.loop-left.invariant.1)
