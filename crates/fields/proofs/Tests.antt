@@ -1,6 +1,5 @@
 -- Laws of tests: when two are one, and what a test that holds tells of its parts.
-use Rattle.fields.proofs.Base.{◌≡◌, refl, sym, ◌∙◌, Bool, true, false, not, cond, ◌&&◌, false≢true, ℕ, ◌≤◌, arith, dec_le, ℕ_discrete, leb, eqb, eq-eqb, ne_eqb, le-leb, lt-leb, not-true}
-use borrow.Author.Tests.{not-false}
+use Rattle.fields.proofs.Base.{◌≡◌, refl, sym, Bool, true, false, cond, ◌&&◌, false≢true, ℕ, ◌≤◌, arith, dec_le, ℕ_discrete, leb, eqb, eq-eqb, ne_eqb, le-leb, lt-leb}
 
 -- a test that fails does not hold
 pub never {ℓ} : {A : Type ℓ} → false ≡ true → A
@@ -38,10 +37,3 @@ eqb_flip a b =
       | yes h ↦ rw (eq-eqb a b h, eq-eqb b a (sym h))
       | no h ↦ rw (ne_eqb a b h, ne_eqb b a (λ e. h (sym e)))
     ]
-
--- what a call `!f(..)` in a condition tells of f's definition
-pub held : {r b : Bool} → r ≡ b → not r ≡ false → b ≡ true
-held {r} {b} e h = sym e ∙ not-false r h
-
-pub failed : {r b : Bool} → r ≡ b → not r ≡ true → b ≡ false
-failed {r} {b} e h = sym e ∙ not-true r h

@@ -1,6 +1,5 @@
-use Rattle.fields.proofs.Base.{le-ltb, lt-ltb, ◌≡◌, sym, ◌∙◌, arith, ◌+◌}
+use Rattle.fields.proofs.Base.{le-ltb, lt-ltb, ◌≡◌, sym, ◌∙◌, arith}
 use Rattle.entries.specs.Entry.{name_at, index_at}
-use Rattle.encint.specs.Encint.{encint_at}
 use Rattle.encint.specs.declared.Number.TheVariants.{Value}
 use Rattle.entries.proofs.Laws.{name_next}
 use Rattle.entries.proofs.index_at.Goals.{In-Value}
