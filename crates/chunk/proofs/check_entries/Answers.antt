@@ -10,7 +10,25 @@ use Rattle.chunk.specs.declared.Chunk.TheVariants.{Refused}
 use Rattle.chunk.proofs.Frame.{head_small}
 use Rattle.chunk.proofs.Quick.{mark_word, mark_right_lem, div_below}
 use Rattle.chunk.proofs.Turn.{at_start, turn, turn_bad, at_end}
+use Rattle.chunk.proofs.check_entries.Goals.{In-Good, After-loop-left}
 use Rattle.chunk.proofs.check_entries.Goals as goal
+
+-- the entry that is read, and that its parts are inside the chunk
+read_is : (c : In-Good) → let a = c.args in item_at a.limits a.kind a.c.now c.loop-left.at ≡ Good c.in-Good.e
+read_is c = sym c.item_at.ensures ∙ c.in-Good.is
+
+read_inside : (c : In-Good) → Inside c.args.c.now c.loop-left.at c.in-Good.e
+read_inside c = item_inside _ _ _ _ _ (read_is c)
+
+-- behind the last entry
+ended : (c : After-loop-left) → let l = c.loop-left in let a = c.args in
+    cond (eqb l.at a.end) (cond l.rises (cond l.quick (chunk_of (parsed_with a.kind a.c.now [])) (Refused 11)) (Refused 12)) (Refused 10)
+    ≡ chunk_of (checked_entries a.n a.kind a.c.now (entries_at a.limits a.kind a.c.now a.end a.total (first_place a.kind)))
+ended c =
+    let l = c.loop-left in
+    let a = c.args in
+    sym (at_end a.n a.kind a.c.now a.limits a.end l.rises l.quick _ l.left l.at (part a.c.now l.from l.len) c.loop-left-test.false)
+    ∙ l.invariant.3
 
 pub loop-left-init : goal.loop-left-init
 loop-left-init c = let a = c.args in
@@ -30,13 +48,7 @@ returns-in_default c = let l = c.loop-left in
 
 pub still_rises-rises-requires : goal.still_rises-rises-requires
 still_rises-rises-requires c =
-    let read_is : let a = c.args in
-    item_at a.limits a.kind a.c.now c.loop-left.at ≡ Good c.in-Good.e =
-    sym c.item_at.ensures ∙ c.in-Good.is in
-    let read_inside : let a = c.args in
-    Inside a.c.now c.loop-left.at c.in-Good.e =
-    item_inside _ _ _ _ _ (read_is) in
-    (search rules, (read_inside).name)
+    (search rules, (read_inside (goal.at.still_rises-rises-requires c).In-Good).name)
 
 pub still_quick-quick-requires : goal.still_quick-quick-requires
 still_quick-quick-requires c = rw c.first_place-first.ensures (head_small c.args.kind)
@@ -59,18 +71,12 @@ loop-left-smaller c = omega arith
 
 pub loop-left-preserved : goal.loop-left-preserved
 loop-left-preserved c =
-    let read_is : let a = c.args in
-    item_at a.limits a.kind a.c.now c.loop-left.at ≡ Good c.in-Good.e =
-    sym c.item_at.ensures ∙ c.in-Good.is in
-    let read_inside : let a = c.args in
-    Inside a.c.now c.loop-left.at c.in-Good.e =
-    item_inside _ _ _ _ _ (read_is) in
     let l = c.loop-left in
     let a = c.args in
     let w = l.m.word in
     let p = l.m.past in
     let place = c.in-Good.e in (
-      (read_inside).name,
+      (read_inside (goal.at.loop-left-preserved c).In-Good).name,
       c.next_mark-m.ensures.0,
       omega (arith, c.next_mark-m.ensures.1),
       rw (
@@ -80,51 +86,23 @@ loop-left-preserved c =
         c.first_place-first.ensures,
         ← mark_right_lem a.n w p l.invariant.1 a.c.now (first_place a.kind) place.at,
       )
-          (sym (turn a.n a.kind a.c.now a.limits a.end l.rises l.quick (w * a.n + p) l.left l.at (part a.c.now l.from l.len) place c.loop-left-test.true (read_is))
+          (sym (turn a.n a.kind a.c.now a.limits a.end l.rises l.quick (w * a.n + p) l.left l.at (part a.c.now l.from l.len) place c.loop-left-test.true (read_is (goal.at.loop-left-preserved c).In-Good))
           ∙ l.invariant.3),
     )
 
 pub returns-then-at-end : goal.returns-then-at-end
 returns-then-at-end c =
-    let ended : let l = c.loop-left in let a = c.args in
-    cond (eqb l.at a.end) (cond l.rises (cond l.quick (chunk_of (parsed_with a.kind a.c.now [])) (Refused 11)) (Refused 12)) (Refused 10)
-    ≡ chunk_of (checked_entries a.n a.kind a.c.now (entries_at a.limits a.kind a.c.now a.end a.total (first_place a.kind))) =
-    let l = c.loop-left in
-    let a = c.args in
-    sym (at_end a.n a.kind a.c.now a.limits a.end l.rises l.quick _ l.left l.at (part a.c.now l.from l.len) c.loop-left-test.false)
-    ∙ l.invariant.3 in
-    simp (ne_eqb _ _ c.if-at-end.true) at (ended)
+    simp (ne_eqb _ _ c.if-at-end.true) at (ended (goal.at.returns-then-at-end c).After-loop-left)
 
 pub returns-then-not-rises : goal.returns-then-not-rises
 returns-then-not-rises c =
-    let ended : let l = c.loop-left in let a = c.args in
-    cond (eqb l.at a.end) (cond l.rises (cond l.quick (chunk_of (parsed_with a.kind a.c.now [])) (Refused 11)) (Refused 12)) (Refused 10)
-    ≡ chunk_of (checked_entries a.n a.kind a.c.now (entries_at a.limits a.kind a.c.now a.end a.total (first_place a.kind))) =
-    let l = c.loop-left in
-    let a = c.args in
-    sym (at_end a.n a.kind a.c.now a.limits a.end l.rises l.quick _ l.left l.at (part a.c.now l.from l.len) c.loop-left-test.false)
-    ∙ l.invariant.3 in
-    simp (eq-eqb _ _ c.if-at-end.false, c.if-not-rises.true) at (ended)
+    simp (eq-eqb _ _ c.if-at-end.false, c.if-not-rises.true) at (ended (goal.at.returns-then-not-rises c).After-loop-left)
 
 pub returns-then-not-quick : goal.returns-then-not-quick
 returns-then-not-quick c =
-    let ended : let l = c.loop-left in let a = c.args in
-    cond (eqb l.at a.end) (cond l.rises (cond l.quick (chunk_of (parsed_with a.kind a.c.now [])) (Refused 11)) (Refused 12)) (Refused 10)
-    ≡ chunk_of (checked_entries a.n a.kind a.c.now (entries_at a.limits a.kind a.c.now a.end a.total (first_place a.kind))) =
-    let l = c.loop-left in
-    let a = c.args in
-    sym (at_end a.n a.kind a.c.now a.limits a.end l.rises l.quick _ l.left l.at (part a.c.now l.from l.len) c.loop-left-test.false)
-    ∙ l.invariant.3 in
-    simp (eq-eqb _ _ c.if-at-end.false, c.if-not-rises.false, c.if-not-quick.true) at (ended)
+    simp (eq-eqb _ _ c.if-at-end.false, c.if-not-rises.false, c.if-not-quick.true) at (ended (goal.at.returns-then-not-quick c).After-loop-left)
 
 pub returns : goal.returns
 returns c =
-    let ended : let l = c.loop-left in let a = c.args in
-    cond (eqb l.at a.end) (cond l.rises (cond l.quick (chunk_of (parsed_with a.kind a.c.now [])) (Refused 11)) (Refused 12)) (Refused 10)
-    ≡ chunk_of (checked_entries a.n a.kind a.c.now (entries_at a.limits a.kind a.c.now a.end a.total (first_place a.kind))) =
-    let l = c.loop-left in
-    let a = c.args in
-    sym (at_end a.n a.kind a.c.now a.limits a.end l.rises l.quick _ l.left l.at (part a.c.now l.from l.len) c.loop-left-test.false)
-    ∙ l.invariant.3 in
     c.good_chunk.ensures
-    ∙ simp (eq-eqb _ _ c.if-at-end.false, c.if-not-rises.false, c.if-not-quick.false) at (ended)
+    ∙ simp (eq-eqb _ _ c.if-at-end.false, c.if-not-rises.false, c.if-not-quick.false) at (ended (goal.at.returns c).After-loop-left)
