@@ -3,7 +3,18 @@ use Rattle.encint.specs.declared.Number.TheVariants.{Value}
 use Rattle.batch.specs.Batch.{asked_at, result_of}
 use Rattle.batch.proofs.Asked.{asked_inside}
 use Rattle.batch.proofs.Results.{left_start, left_end, left_cut, left_room, left_turn}
+use Rattle.batch.proofs.put_results.Goals.{In-Value}
 use Rattle.batch.proofs.put_results.Goals as goal
+
+-- the request that is read, and what there is room for
+read_is : (c : In-Value) → asked_at c.args.names.now c.loop-at.at ≡ Value c.in-Value.n c.in-Value.start
+read_is c = sym c.asked_at.ensures ∙ c.in-Value.is
+
+inside : (c : In-Value) → (c.loop-at.at < c.in-Value.start) × (c.in-Value.start + c.in-Value.n ≤ length c.args.names.now) × (c.loop-at.to + 32 ≤ length c.loop-at.out)
+inside c =
+    let a = c.args in
+    let i = asked_inside _ _ _ _ (read_is c) in
+    (i.0, i.1, left_room a.file.now a.book a.names.now _ _ _ _ c.loop-at.invariant c.loop-at-test.true _ _ (read_is c))
 
 pub loop-at-init : goal.loop-at-init
 loop-at-init c = left_start c.args.file.now c.args.book c.args.names.now c.args.out.now c.requires
@@ -14,71 +25,24 @@ returns-in_default c = let a = c.args in
     (sym c.asked_at.ensures ∙ c.in_default.is)
 
 pub overflow_add-start : goal.overflow_add-start
-overflow_add-start c =
-    let read_is : asked_at c.args.names.now c.loop-at.at ≡ Value c.in-Value.n c.in-Value.start =
-    sym c.asked_at.ensures ∙ c.in-Value.is in
-    let inside : (c.loop-at.at < c.in-Value.start)
-    × (c.in-Value.start + c.in-Value.n ≤ length c.args.names.now)
-    × (c.loop-at.to + 32 ≤ length c.loop-at.out) =
-    let a = c.args in
-    let i = asked_inside _ _ _ _ read_is in
-    (i.0, i.1, left_room a.file.now a.book a.names.now _ _ _ _ c.loop-at.invariant c.loop-at-test.true _ _ read_is) in
-    omega (arith, inside)
+overflow_add-start c = omega (arith, inside (goal.at.overflow_add-start c).In-Value)
 
 pub slice_bounds-fetch-end : goal.slice_bounds-fetch-end
-slice_bounds-fetch-end c =
-    let read_is : asked_at c.args.names.now c.loop-at.at ≡ Value c.in-Value.n c.in-Value.start =
-    sym c.asked_at.ensures ∙ c.in-Value.is in
-    let inside : (c.loop-at.at < c.in-Value.start)
-    × (c.in-Value.start + c.in-Value.n ≤ length c.args.names.now)
-    × (c.loop-at.to + 32 ≤ length c.loop-at.out) =
-    let a = c.args in
-    let i = asked_inside _ _ _ _ read_is in
-    (i.0, i.1, left_room a.file.now a.book a.names.now _ _ _ _ c.loop-at.invariant c.loop-at-test.true _ _ read_is) in
-    omega (arith, inside)
+slice_bounds-fetch-end c = omega (arith, inside (goal.at.slice_bounds-fetch-end c).In-Value)
 
 pub put_result-requires : goal.put_result-requires
-put_result-requires c =
-    let read_is : asked_at c.args.names.now c.loop-at.at ≡ Value c.in-Value.n c.in-Value.start =
-    sym c.asked_at.ensures ∙ c.in-Value.is in
-    let inside : (c.loop-at.at < c.in-Value.start)
-    × (c.in-Value.start + c.in-Value.n ≤ length c.args.names.now)
-    × (c.loop-at.to + 32 ≤ length c.loop-at.out) =
-    let a = c.args in
-    let i = asked_inside _ _ _ _ read_is in
-    (i.0, i.1, left_room a.file.now a.book a.names.now _ _ _ _ c.loop-at.invariant c.loop-at-test.true _ _ read_is) in
-    inside.2
+put_result-requires c = (inside (goal.at.put_result-requires c).In-Value).2
 
 pub overflow_add-at : goal.overflow_add-at
-overflow_add-at c =
-    let read_is : asked_at c.args.names.now c.loop-at.at ≡ Value c.in-Value.n c.in-Value.start =
-    sym c.asked_at.ensures ∙ c.in-Value.is in
-    let inside : (c.loop-at.at < c.in-Value.start)
-    × (c.in-Value.start + c.in-Value.n ≤ length c.args.names.now)
-    × (c.loop-at.to + 32 ≤ length c.loop-at.out) =
-    let a = c.args in
-    let i = asked_inside _ _ _ _ read_is in
-    (i.0, i.1, left_room a.file.now a.book a.names.now _ _ _ _ c.loop-at.invariant c.loop-at-test.true _ _ read_is) in
-    omega (arith, inside)
+overflow_add-at c = omega (arith, inside (goal.at.overflow_add-at c).In-Value)
 
 pub loop-at-smaller : goal.loop-at-smaller
-loop-at-smaller c =
-    let read_is : asked_at c.args.names.now c.loop-at.at ≡ Value c.in-Value.n c.in-Value.start =
-    sym c.asked_at.ensures ∙ c.in-Value.is in
-    let inside : (c.loop-at.at < c.in-Value.start)
-    × (c.in-Value.start + c.in-Value.n ≤ length c.args.names.now)
-    × (c.loop-at.to + 32 ≤ length c.loop-at.out) =
-    let a = c.args in
-    let i = asked_inside _ _ _ _ read_is in
-    (i.0, i.1, left_room a.file.now a.book a.names.now _ _ _ _ c.loop-at.invariant c.loop-at-test.true _ _ read_is) in
-    omega (arith, inside)
+loop-at-smaller c = omega (arith, inside (goal.at.loop-at-smaller c).In-Value)
 
 pub loop-at-preserved : goal.loop-at-preserved
 loop-at-preserved c =
-    let read_is : asked_at c.args.names.now c.loop-at.at ≡ Value c.in-Value.n c.in-Value.start =
-    sym c.asked_at.ensures ∙ c.in-Value.is in
     let a = c.args in
-    left_turn a.file.now a.book a.names.now a.out.now c.loop-at.out c.loop-at.at c.loop-at.to c.loop-at.invariant c.loop-at-test.true _ _ read_is _
+    left_turn a.file.now a.book a.names.now a.out.now c.loop-at.out c.loop-at.at c.loop-at.to c.loop-at.invariant c.loop-at-test.true _ _ (read_is (goal.at.loop-at-preserved c).In-Value) _
     (c.put_result.ensures ∙ ap (λ r. sets c.loop-at.out c.loop-at.to (result_of r)) (simp add-sub_cancel_left at c.fetch.ensures.answer))
 
 pub returns : goal.returns
