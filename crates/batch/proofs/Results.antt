@@ -1,18 +1,18 @@
 -- The answers as they are written: those of the names that are left make the whole.
-use Rattle.fields.proofs.Base.{◌≡◌, refl, sym, ap, ◌∙◌, List, [], ◌∷◌, ◌++◌, flat_map, append-nil, append_assoc, ℕ, ◌+◌, ◌-◌, ◌*◌, ◌≤◌, ◌<◌, arith, length, length-append, sets, length-sets}
+use Rattle.fields.proofs.Base.{◌≡◌, refl, sym, ap, ◌∙◌, List, [], ◌∷◌, ◌++◌, flat_map, append-nil, append_assoc, ℕ, ◌+◌, ◌-◌, ◌*◌, ◌≤◌, ◌<◌, arith, length, length-append, sets, length-sets, Option, Some, None, Result, Ok, Err}
 use Rattle.fields.specs.Le.{bytes}
 use Rattle.fields.specs.Part.{part}
 use Rattle.put.specs.Put.{put}
 use Rattle.fields.proofs.Le.{length_bytes}
 use Rattle.put.proofs.Put.{sets_after, sets_then, put_inside, length_put}
-use Rattle.encint.specs.declared.Number.TheVariants.{Value, Bad}
 use Rattle.header.specs.declared.Record.{Record}
 use Rattle.fetch.specs.Fetch.{fetched}
-use Rattle.lookup.specs.declared.Reply.{Reply}
-use Rattle.lookup.specs.declared.Reply.TheVariants.{Found, Absent, Refused}
 use Rattle.batch.specs.Batch.{asked_at, names_from, names_in, result_of}
 use Rattle.batch.specs.Step.{results_by}
 use Rattle.batch.proofs.Asked.{asked_inside, names_end, names_cut, names_more}
+use Rattle.refusals.specs.Refusals.{number_of}
+use Rattle.refusals.specs.declared.Refusal.{Refusal}
+use Rattle.report.specs.declared.Report.{Report}
 
 -- ---- four numbers
 
@@ -56,11 +56,11 @@ four_puts s t u v w at a b c d h p q r e =
     sets_then at (at + 24) ((bytes 8 a ++ bytes 8 b) ++ bytes 8 c) (bytes 8 d) s v w w₃ (omega (arith, length_three a b c)) (put_there v w (at + 24) d (omega arith) e)
     ∙ ap (sets s at) (four_is a b c d)
 
-pub length_result : (r : Reply) → length (result_of r) ≡ 32
+pub length_result : (r : Result (Option Report) Refusal) → length (result_of r) ≡ 32
 unfolding result_of
-length_result (Found x) = length_four 0 x.section x.offset x.size
-length_result Absent = length_four 255 0 0 0
-length_result (Refused x) = length_four x.number 0 0 0
+length_result (Ok (Some x)) = length_four 0 x.section x.offset x.size
+length_result (Ok None) = length_four 255 0 0 0
+length_result (Err x) = length_four (number_of x.rule) 0 0 0
 
 -- ---- the loop
 
@@ -82,11 +82,11 @@ module _ (s : List ℕ) (book : Record) (names out₀ : List ℕ) where
     left_end h = rw (names_end names l.most at h) at l.whole
 
     module _ (h : at < length names) where
-      pub left_cut : asked_at names at ≡ Bad → out ≡ sets out₀ 0 (results_by s book (names_in names).list)
+      pub left_cut : asked_at names at ≡ None → out ≡ sets out₀ 0 (results_by s book (names_in names).list)
       unfolding flat_map
       left_cut g = rw (names_cut names l.most at h g) at l.whole
 
-      module _ (n p : ℕ) (g : asked_at names at ≡ Value n p) where
+      module _ (n p : ℕ) (g : asked_at names at ≡ Some (n, p)) where
         pub left_room : to + 32 ≤ length out
         left_room =
             let r = l.room in

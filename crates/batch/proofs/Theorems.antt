@@ -3,7 +3,8 @@
 --     batch_rest      the bytes behind the answers are as they were
 --     batch_status    a status is 0, 255 or 15
 --     batch_refusal   a refusal is opening's, or 22 with no chunk
-use Rattle.fields.proofs.Base.{◌≡◌, refl, sym, ap, ◌∙◌, ◌⊎◌, inl, inr, Bool, true, false, cond, List, [], ◌∷◌, ◌++◌, flat_map, append_assoc, ℕ, zero, suc, ◌+◌, ◌*◌, ◌≤◌, ◌<◌, arith, length, get_or, take, drop, length-append, sets, sets-eq, take_at, drop_at, drop-append-add, leb, leb-true}
+use Rattle.fields.proofs.Base.{◌≡◌, refl, sym, ap, ◌∙◌, ◌⊎◌, inl, inr, Bool, true, false, cond, List, [], ◌∷◌, ◌++◌, flat_map, append_assoc, ℕ, zero, suc, ◌+◌, ◌*◌, ◌≤◌, ◌<◌, arith, length, get_or, take, drop, length-append, sets, sets-eq, take_at, drop_at, drop-append-add, leb, leb-true, Option, Result, Ok, Err}
+use Rattle.std.specs.Prelude.{⊤}
 use Rattle.fields.specs.Part.{part}
 use Rattle.fields.proofs.Tests.{and_both}
 use Rattle.refusals.specs.Refusals.{refusal_of}
@@ -15,17 +16,15 @@ use Rattle.tree.proofs.LookupExact.{lookup_exact}
 use Rattle.book.specs.Book.{directory_of, shape_of}
 use Rattle.opening.specs.Opened.{opened}
 use Rattle.opening.specs.Refusals.{Told}
-use Rattle.opening.specs.declared.Opened.{Opened}
-use Rattle.opening.specs.declared.Opened.TheVariants.{Book}
 use Rattle.opening.proofs.Accepted.{opened_book}
 use Rattle.opening.proofs.Refusals.{refusal_told}
 use Rattle.lookup.specs.Lookup.{outcome_in, looked_up}
 use Rattle.lookup.specs.Reply.{reply_to, replied_to, reply_of}
-use Rattle.lookup.specs.declared.Reply.{Reply}
 use Rattle.lookup.proofs.Replies.{looked_reply}
 use Rattle.batch.specs.Batch.{names_in, four_of, result_for, answerable, on_opened, batch_of, answers_in}
-use Rattle.batch.specs.declared.Batched.TheVariants.{Answered, Refused}
 use Rattle.batch.proofs.Results.{length_result}
+use Rattle.refusals.specs.declared.Rule.TheVariants.{BadName, BadBatch}
+use Rattle.report.specs.declared.Report.{Report}
 
 -- ---- runs of 32, one behind another
 
@@ -56,7 +55,7 @@ result_size : (s : List ℕ) (book : Record) (name : List ℕ) → length (resul
 unfolding result_for
 result_size s book name = length_result (reply_of (looked_up s book name 5))
 
-module _ (s : List ℕ) (book : Record) (names was : List ℕ) (o : opened s ≡ Book book) (done : batch_of s names (length was) ≡ Answered) where
+module _ (s : List ℕ) (book : Record) (names was : List ℕ) (o : opened s ≡ Ok book) (done : batch_of s names (length was) ≡ Ok tt) where
   abbrev ns : List (List ℕ)
   ns = (names_in names).list
 
@@ -67,7 +66,7 @@ module _ (s : List ℕ) (book : Record) (names was : List ℕ) (o : opened s ≡
   unfolding batch_of
   can = go (answerable names (length was)) refl (rw o at done)
     where
-      go : (t : Bool) → answerable names (length was) ≡ t → cond t Answered (Refused (refusal_of 22)) ≡ Answered → answerable names (length was) ≡ true
+      go : (t : Bool) → answerable names (length was) ≡ t → cond {A = Result ⊤ Refusal} t (Ok (tt {0})) (Err (refusal_of BadBatch)) ≡ Ok (tt {0}) → answerable names (length was) ≡ true
       go true q d = q
       go false q d = absurd (let z : ◌≡◌ {A = ℕ} 0 1 = cc in omega arith)
 
@@ -98,13 +97,13 @@ module _ (s : List ℕ) (book : Record) (names was : List ℕ) (o : opened s ≡
 
 -- ---- a status
 
-abbrev status_of : Reply → ℕ
+abbrev status_of : Result (Option Report) Refusal → ℕ
 status_of r = get_or (four_of r) 0 0
 
 abbrev OneOfThree : ℕ → Type 0
 OneOfThree n = (n ≡ 0) ⊎ ((n ≡ 255) ⊎ (n ≡ 15))
 
-pub batch_status : (s : List ℕ) (book : Record) (name : List ℕ) → opened s ≡ Book book → OneOfThree (status_of (reply_of (looked_up s book name 5)))
+pub batch_status : (s : List ℕ) (book : Record) (name : List ℕ) → opened s ≡ Ok book → OneOfThree (status_of (reply_of (looked_up s book name 5)))
 unfolding replied_to
 batch_status s book name o =
     let b = opened_book s book o in
@@ -112,7 +111,7 @@ batch_status s book name o =
     rw (looked_reply s book name 5 (omega arith), b.fits) (go (askable name) (outcome_in s book name) refl d.never_refused)
   where
     go : (t : Bool) (x : Outcome) → outcome_in s book name ≡ x → (outcome_in s book name ≡ refused → ⊥)
-        → OneOfThree (status_of (cond t (reply_to book (outcome_in s book name)) (Reply.Refused (refusal_of 15))))
+        → OneOfThree (status_of (cond t (reply_to book (outcome_in s book name)) (Err (refusal_of BadName))))
     go false x q n = inr (inr refl)
     go true (found c e) q n = rw q (inl refl)
     go true absent q n = rw q (inr (inl refl))
@@ -120,15 +119,15 @@ batch_status s book name o =
 
 -- ---- a refusal
 
-pub batch_refusal : (s names : List ℕ) (room : ℕ) (x : Refusal) → batch_of s names room ≡ Refused x → Told s x ⊎ (x ≡ refusal_of 22)
+pub batch_refusal : (s names : List ℕ) (room : ℕ) (x : Refusal) → batch_of s names room ≡ Err x → Told s x ⊎ (x ≡ refusal_of BadBatch)
 unfolding batch_of
 batch_refusal s names room x e = go (opened s) refl e
   where
-    in_book : (t : Bool) → cond t Answered (Refused (refusal_of 22)) ≡ Refused x → x ≡ refusal_of 22
+    in_book : (t : Bool) → cond {A = Result ⊤ Refusal} t (Ok (tt {0})) (Err (refusal_of BadBatch)) ≡ Err x → x ≡ refusal_of BadBatch
     in_book true d = absurd (let z : ◌≡◌ {A = ℕ} 0 1 = cc in omega arith)
-    in_book false d = let z : refusal_of 22 ≡ x = cc in sym z
+    in_book false d = let z : refusal_of BadBatch ≡ x = cc in sym z
 
-    go : (y : Opened) → opened s ≡ y → on_opened y (λ book. cond (answerable names room) Answered (Refused (refusal_of 22))) (λ r. Refused r) ≡ Refused x
-        → Told s x ⊎ (x ≡ refusal_of 22)
-    go (Book b) q d = inr (in_book (answerable names room) d)
-    go (Opened.Refused y) q d = let z : y ≡ x = cc in inl (refusal_told s x (q ∙ ap Opened.Refused z))
+    go : (y : Result Record Refusal) → opened s ≡ y → on_opened y (λ book. cond {A = Result ⊤ Refusal} (answerable names room) (Ok (tt {0})) (Err (refusal_of BadBatch))) (λ r. Err r) ≡ Err x
+        → Told s x ⊎ (x ≡ refusal_of BadBatch)
+    go (Ok b) q d = inr (in_book (answerable names room) d)
+    go (Err y) q d = let z : y ≡ x = cc in inl (refusal_told s x (q ∙ ap Err z))

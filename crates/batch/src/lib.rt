@@ -8,53 +8,33 @@ ghost use Rattle.fields.specs.Le.{bytes};
 ghost use Rattle.batch.specs.Batch.{asked_at, names_in, result_of, batch_of, answers_in};
 ghost use Rattle.batch.specs.Step.{counted_as, results_by, batch_in, answers_by};
 
-use encint::Number;
 use header::Record;
 use lookup::Reply;
-use opening::Opened;
-use refusals::Refusal;
+use refusals::{Refusal, Rule};
 
-// What the call answers.
-#[derive(Clone, Copy)]
-pub enum Batched {
-    Answered,
-    Refused(Refusal),
+// The length of the name at a place, and the name's place.
+fn asked_at(names: &[u8], at: usize) -> Option<(u64, usize)>
+    ensures { result ≡ asked_at names.now at }
+{
+    let (n, start) = encint::read(names, at)?;
+    if names.len() - start < n as usize {
+        return None;
+    }
+    Some((n, start))
 }
 
 // How many names there are, unless one is cut off.
-#[derive(Clone, Copy)]
-enum Counted {
-    All(usize),
-    Cut,
-}
-
-// The length of the name at a place, and the name's place.
-fn asked_at(names: &[u8], at: usize) -> Number
-    ensures { result ≡ asked_at names.now at }
-{
-    let Number::Value(n, start) = encint::read(names, at) else {
-        return Number::Bad;
-    };
-    if names.len() - start < n as usize {
-        return Number::Bad;
-    }
-    Number::Value(n, start)
-}
-
-// How many names there are.
-fn count_names(names: &[u8]) -> Counted
+fn count_names(names: &[u8]) -> Option<usize>
     ensures { result ≡ counted_as 0 (names_in names.now) }
 {
     let mut n: usize = 0;
     let mut at: usize = 0;
     while at < names.len() {
-        let Number::Value(len, start) = asked_at(names, at) else {
-            return Counted::Cut;
-        };
+        let (len, start) = asked_at(names, at)?;
         at = start + len as usize;
         n += 1;
     }
-    Counted::All(n)
+    Some(n)
 }
 
 // Writes four numbers at a place.
@@ -74,9 +54,9 @@ fn put_result(out: &mut [u8], at: usize, reply: Reply)
     ensures { out.new ≡ sets out.old at (result_of reply) }
 {
     match reply {
-        Reply::Found(x) => put_four(out, at, 0, x.section, x.offset, x.size),
-        Reply::Absent => put_four(out, at, 255, 0, 0, 0),
-        Reply::Refused(r) => put_four(out, at, r.number as u64, 0, 0, 0),
+        Ok(Some(x)) => put_four(out, at, 0, x.section, x.offset, x.size),
+        Ok(None) => put_four(out, at, 255, 0, 0, 0),
+        Err(r) => put_four(out, at, r.number() as u64, 0, 0, 0),
     }
 }
 
@@ -88,7 +68,7 @@ fn put_results(file: &[u8], book: Record, names: &[u8], out: &mut [u8])
     let mut at: usize = 0;
     let mut to: usize = 0;
     while at < names.len() {
-        let Number::Value(n, start) = asked_at(names, at) else {
+        let Some((n, start)) = asked_at(names, at) else {
             return;
         };
         let len = n as usize;
@@ -103,28 +83,26 @@ fn put_results(file: &[u8], book: Record, names: &[u8], out: &mut [u8])
 }
 
 // The same, unless a name is cut off or the results have no room: nothing is written before both are known.
-fn batch_in(file: &[u8], book: Record, names: &[u8], answers: &mut [u8]) -> Batched
+fn batch_in(file: &[u8], book: Record, names: &[u8], answers: &mut [u8]) -> Result<(), Refusal>
     ensures answer { result ≡ batch_in names.now (length answers.old) }
     ensures answers { answers.new ≡ answers_by file.now book names.now answers.old }
 {
-    let Counted::All(n) = count_names(names) else {
-        return Batched::Refused(refusals::refuse(22));
+    let Some(n) = count_names(names) else {
+        return Err(refusals::refuse(Rule::BadBatch));
     };
     if answers.len() / 32 < n {
-        return Batched::Refused(refusals::refuse(22));
+        return Err(refusals::refuse(Rule::BadBatch));
     }
     put_results(file, book, names, answers);
-    Batched::Answered
+    Ok(())
 }
 
 // Looks up every name, one behind another in `names`, each an ENCINT of its length and its bytes. The book is opened first, and its refusal answers
 // the whole call. Each result takes 32 bytes: status (0 found, 255 absent, 15 for a name that cannot be asked), section, offset, length.
-pub fn batch(file: &[u8], names: &[u8], answers: &mut [u8]) -> Batched
+pub fn batch(file: &[u8], names: &[u8], answers: &mut [u8]) -> Result<(), Refusal>
     ensures answer { result ≡ batch_of file.now names.now (length answers.old) }
     ensures answers { answers.new ≡ answers_in file.now names.now answers.old }
 {
-    match opening::open(file) {
-        Opened::Book(book) => batch_in(file, book, names, answers),
-        Opened::Refused(r) => Batched::Refused(r),
-    }
+    let book = opening::open(file)?;
+    batch_in(file, book, names, answers)
 }

@@ -9,13 +9,7 @@ use std::io;
 
 // The number that decimal digits spell, as far as it stays below 1,000,000,000.
 fn spelled(text: &[u8]) -> u32 {
-    let mut n: u32 = 0;
-    let mut i = 0;
-    while i < text.len() {
-        n = step(n, text[i]);
-        i += 1;
-    }
-    n
+    text.iter().fold(0, |n, digit| step(n, *digit))
 }
 
 fn step(n: u32, digit: u8) -> u32 {
@@ -29,9 +23,9 @@ fn step(n: u32, digit: u8) -> u32 {
 
 fn good(c: &[u8], limits: Limits) -> u32 {
     match chunk::check(c, limits) {
-        Chunk::Refused(_) => 0,
-        Chunk::Listing(_, _) => 1,
-        Chunk::Index => 1,
+        Err(_) => 0,
+        Ok(Chunk::Listing(_, _)) => 1,
+        Ok(Chunk::Index) => 1,
     }
 }
 

@@ -12,7 +12,7 @@ pub extern "C" fn bench_compare(a: &[u8], b: &[u8]) -> u64
     names::order_of(a, b)
 }
 
-// The plain comparing: byte by byte, both bytes folded.
+// The plain comparing: byte by byte, both bytes folded. Its loop stays by hand: it is what the figures of docs/BENCHMARKS.md compare with.
 #[unsafe(no_mangle)]
 pub extern "C" fn bench_compare_plain(a: &[u8], b: &[u8]) -> u64
     ensures { result ≡ order_code (compared a.now b.now) }

@@ -1,9 +1,8 @@
 -- The entries of a listing chunk that passed its check, as they are read: their count, each behind the one before it.
-use Rattle.fields.proofs.Base.{◌≡◌, sym, ap, ◌∙◌, true, List, ◌∷◌, ℕ, zero, suc, ◌+◌, ◌-◌, ◌≤◌, ◌<◌, arith, length, drop, drop-drop}
+use Rattle.fields.proofs.Base.{◌≡◌, sym, ap, ◌∙◌, true, List, ◌∷◌, ℕ, zero, suc, ◌+◌, ◌-◌, ◌≤◌, ◌<◌, arith, length, drop, drop-drop, Some}
 use Rattle.entries.specs.Entry.{item_at, Entry, entry_of}
 use Rattle.entries.specs.declared.Limits.{Limits}
 use Rattle.entries.specs.declared.Place.{Place}
-use Rattle.entries.specs.declared.Item.TheVariants.{Good}
 use Rattle.entries.proofs.Laws.{item_inside}
 use Rattle.entries.specs.declared.Kind.TheVariants.{Listing}
 use Rattle.chunk.specs.Chunk.{all, entries_at, entries_in}
@@ -19,7 +18,7 @@ rest_is : (i : ℕ) (es : List Entry) (e : Entry) (ds : List Entry) → drop i e
 rest_is i es e ds q = sym (drop-drop 1 i es) ∙ ap (drop 1) q
 
 pub left_more : (limits : Limits) (s : List ℕ) (end n i at : ℕ) (es : List Entry) → i < n → entries_at limits Listing s end (n - i) at ≡ all (drop i es)
-    → (p : Place) × (item_at limits Listing s at ≡ Good p) × (drop i es ≡ entry_of s p ∷ drop (i + 1) es)
+    → (p : Place) × (item_at limits Listing s at ≡ Some p) × (drop i es ≡ entry_of s p ∷ drop (i + 1) es)
     × (entries_at limits Listing s end (n - (i + 1)) p.next ≡ all (drop (i + 1) es))
 left_more limits s end n i at es l e =
     let q : n - i ≡ suc (n - (i + 1)) = omega arith in

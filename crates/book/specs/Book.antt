@@ -1,15 +1,16 @@
 -- A file as a directory: where its chunks stand, and what they mean, by the numbers of a record. The record may be made up; a chunk that does
 -- not lie wholly inside the file has no bytes, and so is no chunk (FORMAT D19, F16, K2, K13).
-use Rattle.std.specs.Prelude.{ℕ, ◌+◌, ◌-◌, ◌*◌, Bool, cond, ◌&&◌, List, length, ltb, leb}
+use Rattle.std.specs.Prelude.{ℕ, ◌+◌, ◌-◌, ◌*◌, Bool, cond, ◌&&◌, List, length, ltb, leb, Result, Err}
 use Rattle.fields.specs.Part.{part_of}
 use Rattle.entries.specs.declared.Limits.{Limits}
 use Rattle.chunk.specs.Chunk.{Parsed, parsed}
 use Rattle.chunk.specs.Answer.{chunk_of}
 use Rattle.chunk.specs.declared.Chunk.{Chunk}
-use Rattle.chunk.specs.declared.Chunk.TheVariants.{Refused}
 use Rattle.directory_header.specs.DirectoryHeader.{within}
 use Rattle.header.specs.declared.Record.{Record}
 use Rattle.tree.specs.Shape.{Shape}
+use Rattle.refusals.specs.declared.Rule.TheVariants.{BadRecord}
+use Rattle.refusals.specs.declared.Rule.{Rule}
 
 -- what the chunks are held to
 unfoldable pub limits_of : List ℕ → Record → Limits
@@ -36,5 +37,5 @@ unfoldable pub record_fits : List ℕ → Record → Bool
 record_fits s r = leb r.density 7 && (within 1 5 r.depth && (within 1 4096 r.count && leb r.content (length s)))
 
 -- what chunk number c leads to: a chunk below the count, or refusal 17 (K13)
-unfoldable pub checked_chunk : List ℕ → Record → ℕ → Chunk
-checked_chunk s r c = cond (ltb c r.count) (chunk_of (directory_of s r c)) (Refused 17)
+unfoldable pub checked_chunk : List ℕ → Record → ℕ → Result Chunk Rule
+checked_chunk s r c = cond (ltb c r.count) (chunk_of (directory_of s r c)) (Err BadRecord)

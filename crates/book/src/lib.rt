@@ -1,4 +1,5 @@
-// A file as a directory, by the numbers of a record, which may be made up: its chunks, and what they are held to.
+// A file as a directory, by the numbers of a record, which may be made up: its chunks, and what they are held to. Here and above, a file and its record stay two
+// parameters, since clauses over one struct of both would be the longer ones (DECISIONS 109).
 #![tactic(auto)]
 
 ghost use Rattle.std.specs.Prelude.{◌≡◌, ◌+◌, ◌-◌, ◌/◌};
@@ -8,6 +9,7 @@ ghost use Rattle.tree.specs.Tree.{top};
 use chunk::Chunk;
 use entries::Limits;
 use header::Record;
+use refusals::Rule;
 
 // Whether a record can be asked; it may be made up.
 pub fn record_fits(file: &[u8], book: Record) -> bool
@@ -88,11 +90,11 @@ pub fn top_chunk(book: Record) -> u64
 }
 
 // What chunk number c leads to: a chunk, checked whole, or a refusal.
-pub fn checked_chunk(file: &[u8], book: Record, c: u64) -> Chunk
+pub fn checked_chunk(file: &[u8], book: Record, c: u64) -> Result<Chunk, Rule>
     ensures { result ≡ checked_chunk file.now book c }
 {
     if book.count <= c {
-        return Chunk::Refused(17);
+        return Err(Rule::BadRecord);
     }
     chunk::check(chunk_bytes(file, book, c), limits(file, book))
 }

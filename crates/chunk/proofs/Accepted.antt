@@ -1,17 +1,16 @@
 -- What a good chunk is, over its bytes: `chunk_accepted`, and by its tag and its links `good_made`.
-use Rattle.fields.proofs.Base.{◌≡◌, refl, sym, ap, subst, ◌∙◌, List, [], ◌∷◌, Bool, true, false, cond, ◌&&◌, ℕ, zero, suc, ◌+◌, ◌-◌, ◌*◌, ◌≤◌, ◌<◌, arith, length, ltb, leb, eqb, eqb-true, leb-true, ltb-true}
+use Rattle.fields.proofs.Base.{◌≡◌, refl, sym, ap, subst, ◌∙◌, List, [], ◌∷◌, Bool, true, false, cond, ◌&&◌, ℕ, zero, suc, ◌+◌, ◌-◌, ◌*◌, ◌≤◌, ◌<◌, arith, length, ltb, leb, eqb, eqb-true, leb-true, ltb-true, Option, Some, None}
 use Rattle.fields.specs.Same.{stands_at}
 use Rattle.fields.proofs.Tests.{never, and_both}
 use Rattle.entries.specs.Entry.{item_at, with_item, Entry, entry_of, entry_name}
 use Rattle.entries.specs.declared.Limits.{Limits}
 use Rattle.entries.specs.declared.Place.{Place}
-use Rattle.entries.specs.declared.Item.{Item}
-use Rattle.entries.specs.declared.Item.TheVariants.{Good, Bad}
 use Rattle.entries.specs.declared.Kind.{Kind}
 use Rattle.entries.specs.declared.Kind.TheVariants.{Listing, Index}
 use Rattle.entries.specs.Rising.{rising}
 use Rattle.chunk.specs.Chunk.{Entries, broken, all, Parsed, bad, parsed_with, entry_then, entries_at, quick, framed, checked_entries, parsed_as, parsed, entries_in, is_kind, is_good}
 use Rattle.chunk_fields.specs.ChunkFields.{tag_of, quick_count, first_place, entry_count, tail_length, spacing_of, kind_of}
+use Rattle.refusals.specs.declared.Rule.TheVariants.{ChunkTag, ChunkFrame, QuickWords, NameOrder}
 
 -- ---- as many entries as were asked for
 
@@ -22,14 +21,14 @@ pushed x (all xs) es d = (xs, refl, (let z : x ∷ xs ≡ es = cc in sym z))
 
 -- the first of some entries was read at their place, and the others behind it
 pub entries_more : (limits : Limits) (k : Kind) (s : List ℕ) (end n at : ℕ) (es : List Entry) → entries_at limits k s end (suc n) at ≡ all es
-    → (p : Place) × (xs : List Entry) × (item_at limits k s at ≡ Good p) × (es ≡ entry_of s p ∷ xs) × (entries_at limits k s end n p.next ≡ all xs)
+    → (p : Place) × (xs : List Entry) × (item_at limits k s at ≡ Some p) × (es ≡ entry_of s p ∷ xs) × (entries_at limits k s end n p.next ≡ all xs)
 unfolding entries_at
 entries_more limits k s end n at es e = read (item_at limits k s at) refl e
   where
-    read : (i : Item) → item_at limits k s at ≡ i → with_item i broken (λ p. entry_then (entry_of s p) (entries_at limits k s end n p.next)) ≡ all es
-        → (p : Place) × (xs : List Entry) × (item_at limits k s at ≡ Good p) × (es ≡ entry_of s p ∷ xs) × (entries_at limits k s end n p.next ≡ all xs)
-    read Bad g d = absurd (let z : ◌≡◌ {A = ℕ} 0 1 = cc in omega arith)
-    read (Good p) g d =
+    read : (i : Option Place) → item_at limits k s at ≡ i → with_item i broken (λ p. entry_then (entry_of s p) (entries_at limits k s end n p.next)) ≡ all es
+        → (p : Place) × (xs : List Entry) × (item_at limits k s at ≡ Some p) × (es ≡ entry_of s p ∷ xs) × (entries_at limits k s end n p.next ≡ all xs)
+    read None g d = absurd (let z : ◌≡◌ {A = ℕ} 0 1 = cc in omega arith)
+    read (Some p) g d =
         let m = pushed (entry_of s p) (entries_at limits k s end n p.next) es d in
         (p, m.0, g, m.2, m.1)
 
@@ -72,7 +71,7 @@ judged_good n k j s (all es) h = go (rising entry_name [] es) (quick s n (first_
     kind Index Listing h = never h
     kind Index Index h = (refl, refl)
 
-    go : (a b : Bool) → rising entry_name [] es ≡ a → quick s n (first_place k) 0 es ≡ b → Judged n k j s (all es) (cond a (cond b (parsed_with k s es) (bad 11)) (bad 12))
+    go : (a b : Bool) → rising entry_name [] es ≡ a → quick s n (first_place k) 0 es ≡ b → Judged n k j s (all es) (cond a (cond b (parsed_with k s es) (bad QuickWords)) (bad NameOrder))
     go true true u v h = let g = kind k j h in (g.0, rw g.1, rw g.1 u, rw g.1 v)
     go true false u v h = never h
     go false b u v h = never h
@@ -95,8 +94,8 @@ as_good limits k j s z = go (framed n k s) refl
     r : Entries
     r = entries_at limits k s (4096 - tail_length s) (entry_count s) (first_place k)
 
-    go : (t : Bool) → framed n k s ≡ t → is_kind j (cond t (checked_entries n k s r) (bad 9)) ≡ true
-        → (k ≡ j) × Accepted limits k s (entries_in (cond t (checked_entries n k s r) (bad 9)))
+    go : (t : Bool) → framed n k s ≡ t → is_kind j (cond t (checked_entries n k s r) (bad ChunkFrame)) ≡ true
+        → (k ≡ j) × Accepted limits k s (entries_in (cond t (checked_entries n k s r) (bad ChunkFrame)))
     go true e h =
         let g = judged_good n k j s r h in
         let f = framed_good n k s e in
@@ -113,8 +112,8 @@ chunk_accepted limits j s = go (eqb (length s) 4096) (stands_at s 0 (tag_of List
     moved : (k : Kind) → length s ≡ 4096 → is_kind j (whole k) ≡ true → Accepted limits j s (entries_in (whole k))
     moved k z h = let g = as_good limits k j s z h in subst (λ (x : Kind). Accepted limits x s (entries_in (whole k))) g.0 g.1
 
-    go : (a b c : Bool) → eqb (length s) 4096 ≡ a → is_kind j (cond a (cond b (whole Listing) (cond c (whole Index) (bad 8))) (bad 8)) ≡ true
-        → Accepted limits j s (entries_in (cond a (cond b (whole Listing) (cond c (whole Index) (bad 8))) (bad 8)))
+    go : (a b c : Bool) → eqb (length s) 4096 ≡ a → is_kind j (cond a (cond b (whole Listing) (cond c (whole Index) (bad ChunkTag))) (bad ChunkTag)) ≡ true
+        → Accepted limits j s (entries_in (cond a (cond b (whole Listing) (cond c (whole Index) (bad ChunkTag))) (bad ChunkTag)))
     go true true c e h = moved Listing (eqb-true (length s) 4096 e) h
     go true false true e h = moved Index (eqb-true (length s) 4096 e) h
     go true false false e h = never h
@@ -127,8 +126,8 @@ unfolding checked_entries
 judged_made n k s broken h = never h
 judged_made n k s (all es) h = go (rising entry_name [] es) (quick s n (first_place k) 0 es) k h
   where
-    go : (a b : Bool) (j : Kind) → is_good (cond a (cond b (parsed_with j s es) (bad 11)) (bad 12)) ≡ true
-        → cond a (cond b (parsed_with j s es) (bad 11)) (bad 12) ≡ parsed_with j s (entries_in (cond a (cond b (parsed_with j s es) (bad 11)) (bad 12)))
+    go : (a b : Bool) (j : Kind) → is_good (cond a (cond b (parsed_with j s es) (bad QuickWords)) (bad NameOrder)) ≡ true
+        → cond a (cond b (parsed_with j s es) (bad QuickWords)) (bad NameOrder) ≡ parsed_with j s (entries_in (cond a (cond b (parsed_with j s es) (bad QuickWords)) (bad NameOrder)))
     go true true Listing h = refl
     go true true Index h = refl
     go true false j h = never h
@@ -141,7 +140,7 @@ as_made n limits k s = go (framed n k s)
     j : Parsed
     j = checked_entries n k s (entries_at limits k s (4096 - tail_length s) (entry_count s) (first_place k))
 
-    go : (t : Bool) → is_good (cond t j (bad 9)) ≡ true → cond t j (bad 9) ≡ parsed_with k s (entries_in (cond t j (bad 9)))
+    go : (t : Bool) → is_good (cond t j (bad ChunkFrame)) ≡ true → cond t j (bad ChunkFrame) ≡ parsed_with k s (entries_in (cond t j (bad ChunkFrame)))
     go true h = judged_made n k s _ h
     go false h = never h
 
@@ -152,8 +151,8 @@ good_made limits s = go (eqb (length s) 4096) (stands_at s 0 (tag_of Listing)) (
     whole : Kind → Parsed
     whole k = parsed_as (spacing_of limits.density) limits k s
 
-    go : (a b c : Bool) → is_good (cond a (cond b (whole Listing) (cond c (whole Index) (bad 8))) (bad 8)) ≡ true
-        → cond a (cond b (whole Listing) (cond c (whole Index) (bad 8))) (bad 8) ≡ parsed_with (cond b Listing Index) s (entries_in (cond a (cond b (whole Listing) (cond c (whole Index) (bad 8))) (bad 8)))
+    go : (a b c : Bool) → is_good (cond a (cond b (whole Listing) (cond c (whole Index) (bad ChunkTag))) (bad ChunkTag)) ≡ true
+        → cond a (cond b (whole Listing) (cond c (whole Index) (bad ChunkTag))) (bad ChunkTag) ≡ parsed_with (cond b Listing Index) s (entries_in (cond a (cond b (whole Listing) (cond c (whole Index) (bad ChunkTag))) (bad ChunkTag)))
     go true true c h = as_made _ limits Listing s h
     go true false true h = as_made _ limits Index s h
     go true false false h = never h

@@ -7,13 +7,14 @@ use Rattle.chunk.specs.Chunk.{Entries, broken, all, bad, entries_at, framed, che
 use Rattle.chunk_fields.specs.ChunkFields.{first_place, entry_count, quick_count, tail_length, spacing_of}
 use Rattle.chunk.proofs.Accepted.{entries_count}
 use Rattle.chunk.proofs.Quick.{Alike, quick_alike, capped}
+use Rattle.refusals.specs.declared.Rule.TheVariants.{ChunkFrame}
 
 pub head_small : (k : Kind) → first_place k ≤ 20
 head_small Listing = omega arith
 head_small Index = omega arith
 
 pub framed_as : (limits : Limits) (k : Kind) (s : List ℕ) (n c q t h : ℕ) → c ≡ entry_count s → q ≡ quick_count n c → t ≡ tail_length s → h ≡ first_place k
-    → parsed_as n limits k s ≡ cond (ltb 0 c && (leb (2 + 2 * q) t && leb t (4096 - h))) (checked_entries n k s (entries_at limits k s (4096 - t) c (first_place k))) (bad 9)
+    → parsed_as n limits k s ≡ cond (ltb 0 c && (leb (2 + 2 * q) t && leb t (4096 - h))) (checked_entries n k s (entries_at limits k s (4096 - t) c (first_place k))) (bad ChunkFrame)
 unfolding parsed_as framed
 framed_as limits k s n c q t h ec eq et eh = rw (eq, ec, et, eh) refl
 

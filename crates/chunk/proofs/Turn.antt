@@ -4,13 +4,12 @@
 --     turn        an entry that was read moves it on
 --     turn_bad    what is no entry settles it
 --     at_end      behind the last entry it is read off the flags
-use Rattle.fields.proofs.Base.{◌≡◌, refl, sym, ap, ◌∙◌, List, [], Bool, true, false, cond, ◌&&◌, ℕ, suc, ◌+◌, ◌-◌, ◌≤◌, ◌<◌, arith, eqb}
+use Rattle.fields.proofs.Base.{◌≡◌, refl, sym, ap, ◌∙◌, List, [], Bool, true, false, cond, ◌&&◌, ℕ, suc, ◌+◌, ◌-◌, ◌≤◌, ◌<◌, arith, eqb, Some, None, Result, Err}
 use mathlib.Core.Bool.{and_assoc}
 use Rattle.names.specs.Names.{below}
 use Rattle.entries.specs.Entry.{item_at, name_of, Entry, entry_of, entry_name}
 use Rattle.entries.specs.declared.Limits.{Limits}
 use Rattle.entries.specs.declared.Place.{Place}
-use Rattle.entries.specs.declared.Item.TheVariants.{Good, Bad}
 use Rattle.entries.specs.declared.Kind.{Kind}
 use Rattle.entries.specs.declared.Kind.TheVariants.{Listing, Index}
 use Rattle.entries.specs.Rising.{rising}
@@ -18,19 +17,20 @@ use Rattle.chunk.specs.Chunk.{Entries, broken, all, bad, parsed_with, entry_then
 use Rattle.chunk_fields.specs.ChunkFields.{first_place}
 use Rattle.chunk.specs.Answer.{chunk_of}
 use Rattle.chunk.specs.declared.Chunk.{Chunk}
-use Rattle.chunk.specs.declared.Chunk.TheVariants.{Refused}
+use Rattle.refusals.specs.declared.Rule.TheVariants.{BadEntry, QuickWords, NameOrder}
+use Rattle.refusals.specs.declared.Rule.{Rule}
 
 module _ (n : ℕ) (k : Kind) (s : List ℕ) where
-  unfoldable pub outcome : Bool → Bool → ℕ → List ℕ → Entries → Chunk
-  outcome o q i last broken = Refused 10
-  outcome o q i last (all es) = cond (o && rising entry_name last es) (cond (q && quick s n (first_place k) i es) (chunk_of (parsed_with k s [])) (Refused 11)) (Refused 12)
+  unfoldable pub outcome : Bool → Bool → ℕ → List ℕ → Entries → Result Chunk Rule
+  outcome o q i last broken = Err BadEntry
+  outcome o q i last (all es) = cond (o && rising entry_name last es) (cond (q && quick s n (first_place k) i es) (chunk_of (parsed_with k s [])) (Err QuickWords)) (Err NameOrder)
 
   pub at_start : (r : Entries) → outcome true true 0 [] r ≡ chunk_of (checked_entries n k s r)
   unfolding outcome checked_entries
   at_start broken = refl
   at_start (all es) = go (rising entry_name [] es) (quick s n (first_place k) 0 es) k
     where
-      go : (a b : Bool) (j : Kind) → cond a (cond b (chunk_of (parsed_with j s [])) (Refused 11)) (Refused 12) ≡ chunk_of (cond a (cond b (parsed_with j s es) (bad 11)) (bad 12))
+      go : (a b : Bool) (j : Kind) → cond a (cond b (chunk_of (parsed_with j s [])) (Err QuickWords)) (Err NameOrder) ≡ chunk_of (cond a (cond b (parsed_with j s es) (bad QuickWords)) (bad NameOrder))
       go true true Listing = refl
       go true true Index = refl
       go true false j = refl
@@ -47,21 +47,21 @@ module _ (n : ℕ) (k : Kind) (s : List ℕ) where
     some_left : 0 < left → entries_at limits k s end left at ≡ entries_at limits k s end (suc (left - 1)) at
     some_left h = ap (λ (x : ℕ). entries_at limits k s end x at) (omega arith)
 
-    pub turn : (e : Place) → 0 < left → item_at limits k s at ≡ Good e
+    pub turn : (e : Place) → 0 < left → item_at limits k s at ≡ Some e
         → outcome o q i last (entries_at limits k s end left at)
         ≡ outcome (o && below last (name_of s e)) (q && quick_at s n (first_place k) i e.at) (i + 1) (name_of s e) (entries_at limits k s end (left - 1) e.next)
     unfolding entries_at
     turn e h g = ap (outcome o q i last) (some_left h) ∙ rw g (pushed o q i last (entry_of s e) (entries_at limits k s end (left - 1) e.next))
 
-    pub turn_bad : 0 < left → item_at limits k s at ≡ Bad → Refused 10 ≡ outcome o q i last (entries_at limits k s end left at)
+    pub turn_bad : 0 < left → item_at limits k s at ≡ None → Err BadEntry ≡ outcome o q i last (entries_at limits k s end left at)
     unfolding entries_at outcome
     turn_bad h g = sym (ap (outcome o q i last) (some_left h) ∙ rw g refl)
 
-    pub at_end : left ≤ 0 → outcome o q i last (entries_at limits k s end left at) ≡ cond (eqb at end) (cond o (cond q (chunk_of (parsed_with k s [])) (Refused 11)) (Refused 12)) (Refused 10)
+    pub at_end : left ≤ 0 → outcome o q i last (entries_at limits k s end left at) ≡ cond (eqb at end) (cond o (cond q (chunk_of (parsed_with k s [])) (Err QuickWords)) (Err NameOrder)) (Err BadEntry)
     unfolding entries_at outcome rising quick
     at_end h = let z : left ≡ 0 = omega arith in rw z (go (eqb at end) o q)
       where
-        go : (a b c : Bool) → outcome b c i last (cond a (all []) broken) ≡ cond a (cond b (cond c (chunk_of (parsed_with k s [])) (Refused 11)) (Refused 12)) (Refused 10)
+        go : (a b c : Bool) → outcome b c i last (cond a (all []) broken) ≡ cond a (cond b (cond c (chunk_of (parsed_with k s [])) (Err QuickWords)) (Err NameOrder)) (Err BadEntry)
         go true true true = refl
         go true true false = refl
         go true false c = refl

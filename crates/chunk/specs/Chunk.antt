@@ -7,12 +7,14 @@ use Rattle.chunk_fields.specs.ChunkFields.{tag_of, first_place, entry_count, tai
 use Rattle.entries.specs.declared.Limits.{Limits}
 use Rattle.entries.specs.declared.Kind.{Kind}
 use Rattle.entries.specs.declared.Kind.TheVariants.{Listing, Index}
+use Rattle.refusals.specs.declared.Rule.TheVariants.{ChunkTag, ChunkFrame, BadEntry, QuickWords, NameOrder}
+use Rattle.refusals.specs.declared.Rule.{Rule}
 
 -- ---- what a chunk can mean
 
--- `bad` has the refusal's number, `listing` the previous and the next listing chunk
+-- `bad` has the rule that is broken, `listing` the previous and the next listing chunk
 pub data Parsed : Type 0 where
-  bad : ℕ → Parsed
+  bad : Rule → Parsed
   listing : ℕ → ℕ → List Entry → Parsed
   index : List Entry → Parsed
 
@@ -57,13 +59,13 @@ parsed_with Index s es = index es
 
 -- entries that were read, by the rules on all of them: their names rise, refusal 12, and their quick words are right, refusal 11
 unfoldable pub checked_entries : ℕ → Kind → List ℕ → Entries → Parsed
-checked_entries n k s broken = bad 10
-checked_entries n k s (all es) = cond (rising entry_name [] es) (cond (quick s n (first_place k) 0 es) (parsed_with k s es) (bad 11)) (bad 12)
+checked_entries n k s broken = bad BadEntry
+checked_entries n k s (all es) = cond (rising entry_name [] es) (cond (quick s n (first_place k) 0 es) (parsed_with k s es) (bad QuickWords)) (bad NameOrder)
 
 -- a chunk of 4,096 bytes of a known kind, with n entries from one quick word to the next
 unfoldable pub parsed_as : ℕ → Limits → Kind → List ℕ → Parsed
 parsed_as n limits k s =
-    cond (framed n k s) (checked_entries n k s (entries_at limits k s (4096 - tail_length s) (entry_count s) (first_place k))) (bad 9)
+    cond (framed n k s) (checked_entries n k s (entries_at limits k s (4096 - tail_length s) (entry_count s) (first_place k))) (bad ChunkFrame)
 
 -- any bytes as a chunk
 unfoldable pub parsed : Limits → List ℕ → Parsed
@@ -71,8 +73,8 @@ parsed limits s =
     cond (eqb (length s) 4096)
     (cond (stands_at s 0 (tag_of Listing)) (parsed_as (spacing_of limits.density) limits Listing s)
     (cond (stands_at s 0 (tag_of Index)) (parsed_as (spacing_of limits.density) limits Index s)
-    (bad 8)))
-    (bad 8)
+    (bad ChunkTag)))
+    (bad ChunkTag)
 
 -- ---- what is asked of a parsed chunk
 

@@ -2,19 +2,18 @@
 #![tactic(auto)]
 
 ghost use Rattle.std.specs.Prelude.{◌≡◌, [], ◌&&◌, ◌+◌, ◌-◌, ◌*◌, ◌/◌, ◌<◌, ◌≤◌, length};
-ghost use Rattle.fields.specs.Part.{part};
 ghost use Rattle.names.specs.Names.{below};
 ghost use Rattle.chunk_fields.specs.ChunkFields.{first_place, spacing_of, quick_count};
 ghost use Rattle.chunk.specs.Chunk.{entries_at, parsed_with, checked_entries, parsed_as, parsed};
 ghost use Rattle.chunk.specs.Marks.{mark_right};
 ghost use Rattle.chunk.specs.Answer.{chunk_of};
 
-use entries::{Item, Kind, Limits};
+use entries::{Kind, Limits};
+use refusals::Rule;
 
-// What a chunk is: refused with a number from 8 to 12, a listing chunk with the numbers of the one before and the one behind it, or an index chunk.
+// What a chunk is: a listing chunk with the numbers of the one before and the one behind it, or an index chunk.
 #[derive(Clone, Copy)]
 pub enum Chunk {
-    Refused(u8),
     Listing(u32, u32),
     Index,
 }
@@ -53,12 +52,11 @@ fn next_mark(m: Mark, n: usize) -> Mark
 }
 
 // Whether the names rose so far, and this one comes after the one before it.
-fn still_rises(c: &[u8], rises: bool, from: usize, len: usize, start: usize, n: usize) -> bool
-    requires { (from + len ≤ length c.now) × (start + n ≤ length c.now) }
-    ensures { result ≡ (rises && below (part c.now from len) (part c.now start n)) }
+fn still_rises(rises: bool, last: &[u8], name: &[u8]) -> bool
+    ensures { result ≡ (rises && below last.now name.now) }
 {
     if rises {
-        names::is_below(&c[from..from + len], &c[start..start + n])
+        names::is_below(last, name)
     } else {
         false
     }
@@ -84,53 +82,61 @@ fn still_quick(c: &[u8], quick: bool, first: usize, m: Mark, at: usize) -> bool
 
 // The answer on a chunk that keeps every rule.
 fn good_chunk(c: &[u8], kind: Kind) -> Chunk
-    ensures { result ≡ chunk_of (parsed_with kind c.now []) }
+    ensures { Ok result ≡ chunk_of (parsed_with kind c.now []) }
 {
     match kind {
-        Kind::Listing => Chunk::Listing(chunk_fields::previous_link(c), chunk_fields::next_link(c)),
+        Kind::Listing => {
+            Chunk::Listing(chunk_fields::previous_link(c), chunk_fields::next_link(c))
+        }
         Kind::Index => Chunk::Index,
     }
 }
 
 // The answer by `total` entries that have to end at `end`: refusal 10, 12 or 11, in this order. So the walk goes on past a fault of order or of a quick word.
-fn check_entries(c: &[u8], limits: Limits, kind: Kind, n: usize, total: usize, end: usize) -> Chunk
+fn check_entries(
+    c: &[u8],
+    limits: Limits,
+    kind: Kind,
+    n: usize,
+    total: usize,
+    end: usize,
+) -> Result<Chunk, Rule>
     requires { (0 < n) × (2 * ((total - 1) / n) ≤ 4094) }
     ensures { result ≡ chunk_of (checked_entries n kind c.now (entries_at limits kind c.now end total (first_place kind))) }
 {
     let first = chunk_fields::first_place(kind);
     let mut at = first;
-    let mut from: usize = 0;
-    let mut len: usize = 0;
+    let mut last = &c[0..0];
     let mut rises = true;
     let mut quick = true;
     let mut m = Mark { word: 0, past: 0 };
     let mut left = total;
     while 0 < left {
-        let Item::Good(e) = entries::item_at(c, limits, kind, at) else {
-            return Chunk::Refused(10);
+        let Some(e) = entries::item_at(c, limits, kind, at) else {
+            return Err(Rule::BadEntry);
         };
-        rises = still_rises(c, rises, from, len, e.start, e.len);
+        let name = &c[e.start..e.start + e.len];
+        rises = still_rises(rises, last, name);
         quick = still_quick(c, quick, first, m, e.at);
         m = next_mark(m, n);
-        from = e.start;
-        len = e.len;
+        last = name;
         at = e.next;
         left -= 1;
     }
     if at != end {
-        return Chunk::Refused(10);
+        return Err(Rule::BadEntry);
     }
     if !rises {
-        return Chunk::Refused(12);
+        return Err(Rule::NameOrder);
     }
     if !quick {
-        return Chunk::Refused(11);
+        return Err(Rule::QuickWords);
     }
-    good_chunk(c, kind)
+    Ok(good_chunk(c, kind))
 }
 
 // The answer on a chunk of 4,096 bytes that has the tag of a kind.
-fn check_kind(c: &[u8], limits: Limits, kind: Kind) -> Chunk
+fn check_kind(c: &[u8], limits: Limits, kind: Kind) -> Result<Chunk, Rule>
     requires { length c.now ≡ 4096 }
     ensures { result ≡ chunk_of (parsed_as (spacing_of limits.density) limits kind c.now) }
 {
@@ -138,23 +144,23 @@ fn check_kind(c: &[u8], limits: Limits, kind: Kind) -> Chunk
     let total = chunk_fields::entry_count(c) as usize;
     let tail = chunk_fields::tail_length(c) as usize;
     if total < 1 {
-        return Chunk::Refused(9);
+        return Err(Rule::ChunkFrame);
     }
     if tail < 2 + 2 * quick_words(total, n) {
-        return Chunk::Refused(9);
+        return Err(Rule::ChunkFrame);
     }
     if 4096 - chunk_fields::first_place(kind) < tail {
-        return Chunk::Refused(9);
+        return Err(Rule::ChunkFrame);
     }
     check_entries(c, limits, kind, n, total, 4096 - tail)
 }
 
 // What a chunk is.
-pub fn check(c: &[u8], limits: Limits) -> Chunk
+pub fn check(c: &[u8], limits: Limits) -> Result<Chunk, Rule>
     ensures { result ≡ chunk_of (parsed limits c.now) }
 {
     if c.len() != 4096 {
-        return Chunk::Refused(8);
+        return Err(Rule::ChunkTag);
     }
     if chunk_fields::has_tag(c, Kind::Listing) {
         return check_kind(c, limits, Kind::Listing);
@@ -162,5 +168,5 @@ pub fn check(c: &[u8], limits: Limits) -> Chunk
     if chunk_fields::has_tag(c, Kind::Index) {
         return check_kind(c, limits, Kind::Index);
     }
-    Chunk::Refused(8)
+    Err(Rule::ChunkTag)
 }

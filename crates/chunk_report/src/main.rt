@@ -4,9 +4,7 @@
 #![tactic(auto)]
 
 use chunk::Chunk;
-use entries::{Kind, Limits};
-use quickref::Hit;
-use seek::Child;
+use entries::{Kind, Limits, Place};
 use std::io;
 use std::io::Write;
 
@@ -14,17 +12,17 @@ fn number<W: Write>(out: &mut W, n: u64) -> io::Result<()> {
     write!(out, " {n}")
 }
 
-fn place<W: Write>(out: &mut W, h: Hit) -> io::Result<()> {
+fn place<W: Write>(out: &mut W, h: Option<Place>) -> io::Result<()> {
     match h {
-        Hit::At(e) => number(out, e.at as u64),
-        Hit::Nothing => write!(out, " -"),
+        Some(e) => number(out, e.at as u64),
+        None => write!(out, " -"),
     }
 }
 
-fn child<W: Write>(out: &mut W, d: Child) -> io::Result<()> {
+fn child<W: Write>(out: &mut W, d: Option<u64>) -> io::Result<()> {
     match d {
-        Child::Below(n) => number(out, n),
-        Child::Nowhere => write!(out, " -"),
+        Some(n) => number(out, n),
+        None => write!(out, " -"),
     }
 }
 
@@ -36,8 +34,8 @@ fn sought<W: Write>(
     name: &[u8],
 ) -> io::Result<()> {
     match kind {
-        Kind::Listing => place(out, seek::find(c, limits, name).hit),
-        Kind::Index => child(out, seek::choose(c, limits, name).child),
+        Kind::Listing => place(out, seek::find(c, limits, name).answer),
+        Kind::Index => child(out, seek::choose(c, limits, name).answer),
     }
 }
 
@@ -62,15 +60,15 @@ fn searches<W: Write>(out: &mut W, c: &[u8], limits: Limits, kind: Kind) -> io::
 
 fn report<W: Write>(out: &mut W, c: &[u8], limits: Limits) -> io::Result<()> {
     match chunk::check(c, limits) {
-        Chunk::Refused(n) => write!(out, "{n}")?,
-        Chunk::Listing(previous, next) => {
+        Err(rule) => write!(out, "{}", rule.number())?,
+        Ok(Chunk::Listing(previous, next)) => {
             write!(out, "L")?;
             number(out, previous as u64)?;
             number(out, next as u64)?;
             number(out, chunk_fields::entry_count(c) as u64)?;
             searches(out, c, limits, Kind::Listing)?;
         }
-        Chunk::Index => {
+        Ok(Chunk::Index) => {
             write!(out, "I")?;
             number(out, chunk_fields::entry_count(c) as u64)?;
             searches(out, c, limits, Kind::Index)?;

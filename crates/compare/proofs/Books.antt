@@ -1,5 +1,5 @@
 -- What is read along the chain of a book that opens: all its entries, to the end, in the order of their names; and they are few.
-use Rattle.fields.proofs.Base.{◌≡◌, sym, ap, ◌∙◌, List, [], ◌∷◌, map, ℕ, ◌<◌, ◌^◌, arith, length, length-map}
+use Rattle.fields.proofs.Base.{◌≡◌, sym, ap, ◌∙◌, List, [], ◌∷◌, map, ℕ, ◌<◌, ◌^◌, arith, length, length-map, Ok}
 use Rattle.chunk.specs.Chunk.{Parsed}
 use Rattle.header.specs.declared.Record.{Record}
 use Rattle.header.proofs.Accepted.{header_accepted}
@@ -13,7 +13,6 @@ use Rattle.tree.proofs.Reading.{entry_in, reading_good, held_entries, chain_shor
 use Rattle.book.specs.Book.{directory_of, shape_of}
 use Rattle.book.proofs.Read.{entries_few}
 use Rattle.opening.specs.Opened.{opened}
-use Rattle.opening.specs.declared.Opened.TheVariants.{Book}
 use Rattle.opening.proofs.Accepted.{opened_book}
 use Rattle.walk.specs.Exact.{reading_of}
 use Rattle.compare.specs.Compared.{Ahead, whole_reading}
@@ -24,7 +23,7 @@ each_held (h ∷ hs) r = ((λ k m. r.0 k.entry (in_map entry_in hs k m)), each_h
 
 -- ---- a book that opens
 
-module _ (s : List ℕ) (book : Record) (o : opened s ≡ Book book) where
+module _ (s : List ℕ) (book : Record) (o : opened s ≡ Ok book) where
   abbrev D : ℕ → Parsed
   D = directory_of s book
 

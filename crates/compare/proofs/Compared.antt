@@ -1,11 +1,10 @@
 -- What a comparison of two books that open is worth: `books_compared`.
-use Rattle.fields.proofs.Base.{◌≡◌, refl, sym, ap, subst, ◌∙◌, true, List, ℕ, arith, length}
+use Rattle.fields.proofs.Base.{◌≡◌, refl, sym, ap, subst, ◌∙◌, true, List, ℕ, arith, length, Ok}
 use Rattle.header.specs.declared.Record.{Record}
 use Rattle.tree.specs.Chain.{chain_entries}
 use Rattle.tree.specs.Reading.{Reading}
 use Rattle.book.specs.Book.{directory_of, shape_of}
 use Rattle.opening.specs.Opened.{opened}
-use Rattle.opening.specs.declared.Opened.TheVariants.{Book}
 use Rattle.walk.specs.Exact.{reading_of}
 use Rattle.compare.specs.Course.{done, Course, merged, course, pairs, ending, firsts, seconds, no_totals}
 use Rattle.compare.specs.Compare.{compare_start}
@@ -16,7 +15,7 @@ use Rattle.compare.proofs.Counted.{first_total, second_total}
 use Rattle.compare.proofs.Exact.{comparison_exact, none_refused}
 use Rattle.compare.proofs.Books.{book_read, book_rises, book_length, book_few}
 
-module _ (s₁ : List ℕ) (b₁ : Record) (s₂ : List ℕ) (b₂ : Record) (o₁ : opened s₁ ≡ Book b₁) (o₂ : opened s₂ ≡ Book b₂) where
+module _ (s₁ : List ℕ) (b₁ : Record) (s₂ : List ℕ) (b₂ : Record) (o₁ : opened s₁ ≡ Ok b₁) (o₂ : opened s₂ ≡ Ok b₂) where
   -- both are read to their ends
   whole_course : course s₁ b₁ s₂ b₂ ≡ merged true true (reading_of s₁ b₁).entries (reading_of s₂ b₂).entries
   unfolding course

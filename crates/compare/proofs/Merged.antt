@@ -1,8 +1,8 @@
 -- Two lists side by side, both to their ends, step by step (`Merges`); so the course ends well, and each entry of each list comes once, in its order.
 use Rattle.fields.proofs.Base.{◌≡◌, refl, ap, true, List, [], ◌∷◌}
 use Rattle.names.specs.Names.{compared}
-use Rattle.names.specs.declared.Order.{Order}
-use Rattle.names.specs.declared.Order.TheVariants.{Less, Equal, Greater}
+use Rattle.std.specs.declared.cmp.Ordering.{Ordering}
+use Rattle.std.specs.declared.cmp.Ordering.TheVariants.{Less, Equal, Greater}
 use Rattle.seek.specs.Seek.{by_order}
 use Rattle.tree.specs.Reading.{Held}
 use Rattle.compare.specs.Course.{Pair, left, right, both, done, Course, next, held_name, second_alone, against, merged, pairs, ending, firsts, seconds}
@@ -31,7 +31,7 @@ unfolding against pairs ending
 against_well x xs f h [] = let r = h [] in record { merges = only_left r.merges; ends = r.ends }
 against_well x xs f h (y ∷ ys) = go (compared (held_name x) (held_name y)) refl (against_well x xs f h ys)
   where
-    go : (o : Order) → compared (held_name x) (held_name y) ≡ o → Well (x ∷ xs) ys (against true true x f ys)
+    go : (o : Ordering) → compared (held_name x) (held_name y) ≡ o → Well (x ∷ xs) ys (against true true x f ys)
         → Well (x ∷ xs) (y ∷ ys) (by_order o (next (left x) (f (y ∷ ys))) (next (both x y) (f ys)) (next (right y) (against true true x f ys)))
     go Less e i = let r = h (y ∷ ys) in record { merges = less e r.merges; ends = r.ends }
     go Equal e i = let r = h ys in record { merges = equal e r.merges; ends = r.ends }

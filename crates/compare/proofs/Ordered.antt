@@ -1,7 +1,7 @@
 -- The pairs of two lists that rise: what each is made of, and that their names rise, so that each name comes once.
 use Rattle.fields.proofs.Base.{◌≡◌, refl, sym, subst, inl, inr, true, List, [], ◌∷◌}
 use Rattle.names.specs.Names.{compared, below}
-use Rattle.names.specs.declared.Order.TheVariants.{Equal}
+use Rattle.std.specs.declared.cmp.Ordering.TheVariants.{Equal}
 use Rattle.tree.specs.Lists.{In, Each}
 use Rattle.tree.specs.Reading.{Held}
 use Rattle.compare.specs.Course.{Pair, left, right, both, held_name, pair_name}

@@ -1,5 +1,5 @@
 -- Passing over a name that is the same in both books, inside their chunks, leaves the step as it is.
-use Rattle.fields.proofs.Base.{◌≡◌, refl, sym, ◌∙◌, true, List, ℕ, ◌<◌, arith}
+use Rattle.fields.proofs.Base.{◌≡◌, refl, sym, ◌∙◌, true, List, ℕ, ◌<◌, arith, Result}
 use Rattle.entries.specs.Entry.{item_at}
 use Rattle.entries.specs.declared.Place.{Place}
 use Rattle.header.specs.declared.Record.{Record}
@@ -17,6 +17,8 @@ use Rattle.compare.specs.Compare.{compare_step}
 use Rattle.compare.specs.Passing.{SameEntries, Passed}
 use Rattle.compare.proofs.Stepping.{step_tell, step_on}
 use Rattle.compare.proofs.Enough.{enough}
+use Rattle.refusals.specs.declared.Refusal.{Refusal}
+use Rattle.turn.specs.declared.Which.{Which}
 
 module _ (s₁ : List ℕ) (b₁ : Record) (s₂ : List ℕ) (b₂ : Record) where
   -- ---- a step goes on behind a name that has nothing to tell
@@ -26,7 +28,7 @@ module _ (s₁ : List ℕ) (b₁ : Record) (s₂ : List ℕ) (b₂ : Record) whe
   step_past at a h =
       step_on s₁ b₁ s₂ b₂ (weight at.first) at a h ∙ enough s₁ b₁ s₂ b₂ (weight at.first) a (turn_falls s₁ b₁ s₂ b₂ at a h)
 
-  pub step_told : (at : Cursor) (x : Step) → turned s₁ b₁ s₂ b₂ at ≡ Tell x → compare_step s₁ b₁ s₂ b₂ at ≡ x
+  pub step_told : (at : Cursor) (x : Result Step (Which × Refusal)) → turned s₁ b₁ s₂ b₂ at ≡ Tell x → compare_step s₁ b₁ s₂ b₂ at ≡ x
   unfolding compare_step
   step_told at x h = step_tell s₁ b₁ s₂ b₂ (weight at.first) at x h
 

@@ -1,8 +1,8 @@
 -- How an entry stands to those of a list that rises, by how it stands to the first.
 use Rattle.fields.proofs.Base.{◌≡◌, ap, inl, inr, false, List, ◌∷◌}
-use Rattle.names.specs.Order.{is_equal}
+use Rattle.std.specs.Ordering.{is_eq}
 use Rattle.names.specs.Names.{compared, matches}
-use Rattle.names.specs.declared.Order.TheVariants.{Less, Equal, Greater}
+use Rattle.std.specs.declared.cmp.Ordering.TheVariants.{Less, Equal, Greater}
 use Rattle.names.proofs.Laws.{names_laws, flip_less, flip_greater, equal_sym, equal_less, below_less, less_below, below_trans}
 use Rattle.tree.specs.Lists.{In}
 use Rattle.tree.specs.Reading.{Held}
@@ -12,11 +12,11 @@ use Rattle.compare.specs.Compared.{Ahead}
 -- names of which one comes before the other do not match
 pub ahead_apart : (h k : Held) → Ahead h k → matches (held_name h) (held_name k) ≡ false
 unfolding matches
-ahead_apart h k a = ap is_equal (below_less (held_name h) (held_name k) a)
+ahead_apart h k a = ap is_eq (below_less (held_name h) (held_name k) a)
 
 pub behind_apart : (h k : Held) → Ahead k h → matches (held_name h) (held_name k) ≡ false
 unfolding matches
-behind_apart h k a = ap is_equal (flip_less names_laws (held_name k) (held_name h) (below_less (held_name k) (held_name h) a))
+behind_apart h k a = ap is_eq (flip_less names_laws (held_name k) (held_name h) (below_less (held_name k) (held_name h) a))
 
 module _ (x y : Held) (ks : List Held) where
   -- before the first, so before all

@@ -1,20 +1,22 @@
 -- A step goes from name to name: what one name tells ends it. Each step leaves the two books with fewer entries to come: `step_falls`.
-use Rattle.fields.proofs.Base.{◌≡◌, List, ℕ, zero, suc, ◌≤◌, arith}
+use Rattle.fields.proofs.Base.{◌≡◌, List, ℕ, zero, suc, ◌≤◌, arith, Result, Ok, Err}
 use Rattle.header.specs.declared.Record.{Record}
 use Rattle.walk.specs.Walk.{weight}
 use Rattle.turn.specs.Turn.{turned, load, Lighter}
 use Rattle.turn.specs.declared.Cursor.{Cursor}
 use Rattle.turn.specs.declared.Step.{Step}
-use Rattle.turn.specs.declared.Step.TheVariants.{First, Second, Changed, End, Refused}
+use Rattle.turn.specs.declared.Step.TheVariants.{First, Second, Changed, End}
 use Rattle.turn.specs.declared.Turn.{Turn}
 use Rattle.turn.specs.declared.Turn.TheVariants.{Tell, On}
 use Rattle.turn.proofs.Falling.{LighterTurn, turn_lighter}
 use Rattle.compare.specs.Compare.{on_turn, step_from, compare_step}
+use Rattle.refusals.specs.declared.Refusal.{Refusal}
+use Rattle.turn.specs.declared.Which.{Which}
 
 module _ (s₁ : List ℕ) (b₁ : Record) (s₂ : List ℕ) (b₂ : Record) where
   -- ---- a step by what its first name gives
 
-  pub step_tell : (n : ℕ) (at : Cursor) (x : Step) → turned s₁ b₁ s₂ b₂ at ≡ Tell x → step_from s₁ b₁ s₂ b₂ (suc n) at ≡ x
+  pub step_tell : (n : ℕ) (at : Cursor) (x : Result Step (Which × Refusal)) → turned s₁ b₁ s₂ b₂ at ≡ Tell x → step_from s₁ b₁ s₂ b₂ (suc n) at ≡ x
   unfolding step_from
   step_tell n at x h = rw h
 
@@ -24,12 +26,12 @@ module _ (s₁ : List ℕ) (b₁ : Record) (s₂ : List ℕ) (b₂ : Record) whe
 
   -- ---- a step takes entries, or hands no cursor back
 
-  lighter_more : (m n : ℕ) (x : Step) → m ≤ n → Lighter m x → Lighter n x
-  lighter_more m n (First x a) l k = omega arith
-  lighter_more m n (Second y a) l k = omega arith
-  lighter_more m n (Changed x y a) l k = omega arith
-  lighter_more m n (End t) l k = tt
-  lighter_more m n (Refused j r) l k = tt
+  lighter_more : (m n : ℕ) (x : Result Step (Which × Refusal)) → m ≤ n → Lighter m x → Lighter n x
+  lighter_more m n (Ok (First x a)) l k = omega arith
+  lighter_more m n (Ok (Second y a)) l k = omega arith
+  lighter_more m n (Ok (Changed x y a)) l k = omega arith
+  lighter_more m n (Ok (End t)) l k = tt
+  lighter_more m n (Err (j, r)) l k = tt
 
   from_lighter : (n : ℕ) (at : Cursor) → Lighter (load at) (step_from s₁ b₁ s₂ b₂ n at)
   unfolding step_from

@@ -1,5 +1,5 @@
 -- What the steps of a comparison tell, over any two files and records; and what it is worth on two books that open.
-use Rattle.std.specs.Prelude.{ℕ, zero, suc, ◌+◌, ◌≡◌, ◌↔◌, ◌≢◌, true, false, List, [], ◌∷◌, ◌++◌, map, length, take}
+use Rattle.std.specs.Prelude.{ℕ, zero, suc, ◌+◌, ◌≡◌, ◌↔◌, ◌≢◌, true, false, List, [], ◌∷◌, ◌++◌, map, length, take, Result, Ok, Err}
 use Rattle.refusals.specs.declared.Refusal.{Refusal}
 use Rattle.names.specs.Names.{below, matches}
 use Rattle.header.specs.declared.Record.{Record}
@@ -14,9 +14,10 @@ use Rattle.turn.specs.declared.Totals.{Totals}
 use Rattle.turn.specs.declared.Cursor.{Cursor}
 use Rattle.turn.specs.declared.Shown.{Shown}
 use Rattle.turn.specs.declared.Step.{Step}
-use Rattle.turn.specs.declared.Step.TheVariants.{First, Second, Changed, End, Refused}
+use Rattle.turn.specs.declared.Step.TheVariants.{First, Second, Changed, End}
 use Rattle.compare.specs.Course.{Pair, left, right, both, Ending, done, first_stops, second_stops, held_name, course, pairs, ending, pair_name, firsts, seconds, is_same, differences, totals_from, no_totals}
 use Rattle.compare.specs.Compare.{compare_step}
+use Rattle.turn.specs.declared.Which.{Which}
 
 -- ---- differences as steps tell them
 
@@ -37,20 +38,20 @@ difference_of b₁ b₂ (both x y) = changed (shown_of b₁ x) (shown_of b₂ y)
 -- ---- steps, each at the cursor that the one before handed back
 
 -- what a step tells: a difference, or none
-abbrev pub told_in : Step → List Difference
-told_in (First x at) = only_first x ∷ []
-told_in (Second y at) = only_second y ∷ []
-told_in (Changed x y at) = changed x y ∷ []
-told_in (End t) = []
-told_in (Refused k r) = []
+abbrev pub told_in : Result Step (Which × Refusal) → List Difference
+told_in (Ok (First x at)) = only_first x ∷ []
+told_in (Ok (Second y at)) = only_second y ∷ []
+told_in (Ok (Changed x y at)) = changed x y ∷ []
+told_in (Ok (End t)) = []
+told_in (Err (k, r)) = []
 
 -- the cursor that a step at `at` hands back; the end and a refusal hand none back, and so leave the one there was
-abbrev pub behind_step : Cursor → Step → Cursor
-behind_step at (First x behind) = behind
-behind_step at (Second y behind) = behind
-behind_step at (Changed x y behind) = behind
-behind_step at (End t) = at
-behind_step at (Refused k r) = at
+abbrev pub behind_step : Cursor → Result Step (Which × Refusal) → Cursor
+behind_step at (Ok (First x behind)) = behind
+behind_step at (Ok (Second y behind)) = behind
+behind_step at (Ok (Changed x y behind)) = behind
+behind_step at (Ok (End t)) = at
+behind_step at (Err (k, r)) = at
 
 module _ (s₁ : List ℕ) (b₁ : Record) (s₂ : List ℕ) (b₂ : Record) where
   -- what n steps from a cursor tell
@@ -80,10 +81,10 @@ module _ (s₁ : List ℕ) (b₁ : Record) (s₂ : List ℕ) (b₂ : Record) whe
   end_cursor from = after_steps (length course_told) from
 
 -- the answer behind the last difference: the totals, or the book that could not be read further
-abbrev pub last_step : Ending → Totals → Step
-last_step done t = End t
-last_step first_stops t = refused_by 1
-last_step second_stops t = refused_by 2
+abbrev pub last_step : Ending → Totals → Result Step (Which × Refusal)
+last_step done t = Ok (End t)
+last_step first_stops t = refused_by Which.First
+last_step second_stops t = refused_by Which.Second
 
 -- the steps from a cursor, which is the start, tell exactly the differences of the course, one a step, in order; behind them each step says how it ends
 pub record ComparisonExact (s₁ : List ℕ) (b₁ : Record) (s₂ : List ℕ) (b₂ : Record) (from : Cursor) : Type 0 where
@@ -123,7 +124,7 @@ pub record BooksCompared (s₁ : List ℕ) (b₁ : Record) (s₂ : List ℕ) (b�
   pub second_read : reading_of s₂ b₂ ≡ whole_reading s₂ b₂
   -- it ends with the totals, and no step is refused
   pub ends : ending (course s₁ b₁ s₂ b₂) ≡ done
-  pub never_refused : (n k : ℕ) (r : Refusal) → compare_step s₁ b₁ s₂ b₂ (after_steps s₁ b₁ s₂ b₂ n from) ≢ Refused k r
+  pub never_refused : (n : ℕ) (k : Which) (r : Refusal) → compare_step s₁ b₁ s₂ b₂ (after_steps s₁ b₁ s₂ b₂ n from) ≢ Err (k, r)
   pub pairs_right : PairsRight (reading_of s₁ b₁).entries (reading_of s₂ b₂).entries (course_pairs s₁ b₁ s₂ b₂)
   -- the totals add up to the entries of each book
   pub first_count : (course_totals s₁ b₁ s₂ b₂).first + (course_totals s₁ b₁ s₂ b₂).same + (course_totals s₁ b₁ s₂ b₂).changed

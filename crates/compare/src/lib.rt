@@ -5,46 +5,40 @@ ghost use Rattle.std.specs.Prelude.{◌≡◌, true, ◌≢◌, List, ℕ};
 ghost use Rattle.refusals.specs.declared.Refusal.{Refusal};
 ghost use Rattle.book.specs.Book.{record_fits};
 ghost use Rattle.opening.specs.Opened.{opened};
-ghost use Rattle.opening.specs.declared.Opened.TheVariants.{Book};
 ghost use Rattle.turn.specs.Turn.{load, Lighter};
-ghost use Rattle.turn.specs.declared.Step.TheVariants.{Refused};
+ghost use Rattle.turn.specs.declared.Which.{Which};
 ghost use Rattle.compare.specs.Compare.{compare_start, compare_step};
 ghost use Rattle.compare.specs.Compared.{after_steps, ComparisonExact, BooksCompared};
 ghost use Rattle.compare.specs.Passing.{SameTold, Passed};
 
-use entries::{Item, Place};
+use entries::Place;
 use header::Record;
-use names::Order;
-use turn::{Cursor, Step, Totals, Turn};
+use turn::{BookRefusal, Cursor, Step, Totals, Turn};
 use walk::Walk;
 
-// Two entries that are the same in both books, in name and numbers.
-#[derive(Clone, Copy)]
-enum Same {
-    Both(Place, Place),
-    Other,
-}
-
-// The entries at two places, each of its chunk, where they are the same.
-fn same_entries(c1: &[u8], at1: u64, content1: u64, c2: &[u8], at2: u64, content2: u64) -> Same
+// The entries at two places, each of its chunk, where they are the same in name and numbers.
+fn same_entries(
+    c1: &[u8],
+    at1: u64,
+    content1: u64,
+    c2: &[u8],
+    at2: u64,
+    content2: u64,
+) -> Option<(Place, Place)>
     ensures { SameTold content1 c1.now at1 content2 c2.now at2 result }
 {
-    let Item::Good(x) = entries::listing_at(c1, at1 as usize, content1) else {
-        return Same::Other;
-    };
-    let Item::Good(y) = entries::listing_at(c2, at2 as usize, content2) else {
-        return Same::Other;
-    };
+    let x = entries::listing_at(c1, at1 as usize, content1)?;
+    let y = entries::listing_at(c2, at2 as usize, content2)?;
     if !turn::same_at(x, y) {
-        return Same::Other;
+        return None;
     }
-    match names::compare(
+    if names::is_match(
         fields::part(c1, x.start, x.len),
         fields::part(c2, y.start, y.len),
     ) {
-        Order::Equal => Same::Both(x, y),
-        Order::Less => Same::Other,
-        Order::Greater => Same::Other,
+        Some((x, y))
+    } else {
+        None
     }
 }
 
@@ -66,7 +60,7 @@ fn pass_inside(file1: &[u8], one: Record, file2: &[u8], two: Record, from: Curso
         }
         let limits1 = book::limits(file1, one);
         let limits2 = book::limits(file2, two);
-        let Same::Both(x, y) = same_entries(
+        let Some((x, y)) = same_entries(
             c1,
             first.at,
             limits1.content,
@@ -104,7 +98,7 @@ fn pass_same(file1: &[u8], one: Record, file2: &[u8], two: Record, from: Cursor)
 pub fn start(one: Record, two: Record) -> Cursor
     ensures answer { result ≡ compare_start one two }
     ensures exact { (s₁ s₂ : List ℕ) → ComparisonExact s₁ one s₂ two result }
-    ensures opened { (s₁ s₂ : List ℕ) → opened s₁ ≡ Book one → opened s₂ ≡ Book two → BooksCompared s₁ one s₂ two result }
+    ensures opened { (s₁ s₂ : List ℕ) → opened s₁ ≡ Ok one → opened s₂ ≡ Ok two → BooksCompared s₁ one s₂ two result }
 {
     let first = Walk::start(one);
     let second = Walk::start(two);
@@ -122,10 +116,16 @@ pub fn start(one: Record, two: Record) -> Cursor
 }
 
 // The next difference, with the cursor behind it; the totals at the end; or a refusal, with the number of the book that met it.
-pub fn step(from: Cursor, file1: &[u8], one: Record, file2: &[u8], two: Record) -> Step
+pub fn step(
+    from: Cursor,
+    file1: &[u8],
+    one: Record,
+    file2: &[u8],
+    two: Record,
+) -> Result<Step, BookRefusal>
     ensures answer { result ≡ compare_step file1.now one file2.now two from }
     ensures ends { Lighter (load from) result }
-    ensures opened { opened file1.now ≡ Book one → opened file2.now ≡ Book two → (n : ℕ) → from ≡ after_steps file1.now one file2.now two n (compare_start one two) → (k : ℕ) (x : Refusal) → result ≢ Refused k x }
+    ensures opened { opened file1.now ≡ Ok one → opened file2.now ≡ Ok two → (n : ℕ) → from ≡ after_steps file1.now one file2.now two n (compare_start one two) → (k : Which) (x : Refusal) → result ≢ Err (k, x) }
 {
     let mut at = from;
     loop {

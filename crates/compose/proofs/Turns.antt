@@ -1,5 +1,5 @@
 -- The loop that writes the entries of a chunk: what holds where some are written (`Putting`), and what a turn finds and leaves.
-use Rattle.fields.proofs.Base.{◌≡◌, refl, sym, ap, ap₂, ◌∙◌, List, [], ◌∷◌, ◌++◌, map, flat_map, ℕ, zero, suc, ◌+◌, ◌-◌, ◌*◌, ◌/◌, ◌≤◌, ◌<◌, arith, length, take, drop, replicate, length-append, length-drop, length-map, length-replicate, sets}
+use Rattle.fields.proofs.Base.{◌≡◌, refl, sym, ap, ap₂, ◌∙◌, List, [], ◌∷◌, ◌++◌, map, flat_map, ℕ, zero, suc, ◌+◌, ◌-◌, ◌*◌, ◌/◌, ◌≤◌, ◌<◌, arith, length, take, drop, replicate, length-append, length-drop, length-map, length-replicate, sets, None}
 use lib.ListN.{replicate-append-replicate}
 use Rattle.entries.specs.declared.Place.{Place}
 use Rattle.entries.specs.declared.Kind.{Kind}
@@ -10,7 +10,6 @@ use Rattle.source.specs.Source.{item_from, rows_from}
 use Rattle.source.proofs.Rows.{run_more}
 use Rattle.pack.specs.Fill.{row_size, fit_of, extent_from}
 use Rattle.pack.specs.declared.Extent.{Extent}
-use Rattle.pack.specs.declared.Fit.TheVariants.{Full}
 use Rattle.pack.proofs.Sizes.{row_bytes}
 use Rattle.pack.proofs.Filling.{Fitted, full}
 use Rattle.compose.specs.NewChunk.{run_bytes, entries_end}
@@ -80,7 +79,7 @@ module _ (content : ℕ) (s starts : List ℕ) (k : Kind) (all from n : ℕ) whe
       }
 
   module _ (out : List ℕ) (f : Extent) (p : Putting out f) where
-    pub putting_end : fit_of k n f.count f.bytes (rows f.left f.at) ≡ Full
+    pub putting_end : fit_of k n f.count f.bytes (rows f.left f.at) ≡ None
         → (f ≡ extent_from k n 0 0 from all (rows all from)) × (out ≡ entries_only k n (group_from content s starts k all from f.count))
     putting_end h =
         let l : f.count ≤ length group = omega (arith, p.there, length-map (rows all from) (stored_of s)) in (

@@ -16,7 +16,7 @@ ghost use Rattle.compose.specs.NewChunk.{word_bytes, chunk_header, new_chunk};
 ghost use Rattle.compose.specs.Steps.{mark_bytes, group_from, entries_only};
 
 use entries::{Kind, Place};
-use pack::{Extent, Fit};
+use pack::Extent;
 use source::Cursor;
 
 // Writes 32-bit numbers one behind another at `at`.
@@ -24,10 +24,8 @@ fn write_words(out: &mut [u8], at: usize, words: &[u32])
     requires { at + 4 * length words.now ≤ length out.old }
     ensures { out.new ≡ sets out.old at (word_bytes words.now) }
 {
-    let mut i = 0;
-    while i < words.len() {
-        put::put32(out, at + 4 * i, words[i]);
-        i += 1;
+    for (i, word) in words.iter().enumerate() {
+        put::put32(out, at + 4 * i, *word);
     }
 }
 
@@ -46,27 +44,12 @@ pub fn put_words(out: &mut [u8], at: usize, words: &[u32]) -> bool
     true
 }
 
-// Makes every byte 0.
-fn clear(out: &mut [u8])
-    ensures { out.new ≡ replicate (length out.old) 0 }
-{
-    let mut i = 0;
-    while i < out.len() {
-        out[i] = 0;
-        i += 1;
-    }
-}
-
 // Copies n bytes of the input from `start` on.
 fn put_run(out: &mut [u8], at: usize, input: &[u8], start: usize, n: usize)
     requires { (at + n ≤ length out.old) × (start + n ≤ length input.now) }
     ensures { out.new ≡ sets out.old at (part input.now start n) }
 {
-    let mut i = 0;
-    while i < n {
-        out[at + i] = input[start + i];
-        i += 1;
-    }
+    out[at..at + n].copy_from_slice(&input[start..start + n]);
 }
 
 // Writes a name of n bytes that stands in the input at `start`, with its length, and returns the place behind it.
@@ -141,7 +124,7 @@ fn put_entries(
         left: from.left,
     };
     loop {
-        let Fit::Entry(e, bytes) = pack::next_fit(input, starts, content, kind, n, f) else {
+        let Some((e, bytes)) = pack::next_fit(input, starts, content, kind, n, f) else {
             return f;
         };
         put_entry(out, first + f.bytes, input, kind, e);
@@ -205,7 +188,7 @@ pub fn write_chunk(
     if out.len() != 4096 {
         return pack::fill(input, starts, content, from, n);
     }
-    clear(out);
+    out.fill(0);
     let f = put_entries(out, input, starts, content, from, n);
     let kind = from.kind;
     put_frame(out, kind, f.bytes, f.count, prev, next);

@@ -9,19 +9,12 @@ ghost use Rattle.diff.specs.Files.{opened_file};
 ghost use Rattle.diff.specs.Steps.{next_after};
 
 use header::Record;
-use opening::Opened;
+use refusals::{Refusal, Rule};
 use std::env::Env;
 use std::io::Write;
 use std::rt::Files;
 use std::{fs, io, str};
-use turn::{Cursor, Shown, Step};
-
-// Where the comparison goes on behind a step: at a cursor, or nowhere.
-#[derive(Clone, Copy)]
-enum Next {
-    At(Cursor),
-    Over,
-}
+use turn::{BookRefusal, Cursor, Shown, Step};
 
 // Reads a file into `buf`, as much of it as there is room for.
 fn read_file<R: Files>(rt: &R, path: &str, buf: &mut [u8]) -> io::Result<usize>
@@ -50,11 +43,11 @@ fn read_named<R: Env + Files>(rt: &R, i: usize, buf: &mut [u8]) -> usize
 }
 
 // Opens a file that was read.
-fn open_file(file: &[u8]) -> Opened
+fn open_file(file: &[u8]) -> Result<Record, Refusal>
     ensures { result ≡ opened_file file.now }
 {
     if 30000 < file.len() {
-        return Opened::Refused(refusals::refuse(29));
+        return Err(refusals::refuse(Rule::LongInput));
     }
     opening::open(file)
 }
@@ -69,34 +62,39 @@ fn write_kind<W: Write>(out: &mut W, kind: u8) {
     frames::write_digits(out, &[kind]);
 }
 
-// The frame of a step: that of a difference, none at the end.
-fn write_step<W: Write>(out: &mut W, file1: &[u8], file2: &[u8], step: Step) -> Next
+// The frame of a step, that of a difference, none at the end; and the cursor where the comparison goes on, if it does.
+fn write_step<W: Write>(
+    out: &mut W,
+    file1: &[u8],
+    file2: &[u8],
+    step: Result<Step, BookRefusal>,
+) -> Option<Cursor>
     ensures { result ≡ next_after step }
 {
     match step {
-        Step::First(x, behind) => {
+        Ok(Step::First(x, behind)) => {
             write_kind(out, 1);
             write_own(out, file1, x);
             frames::end_frame(out);
-            Next::At(behind)
+            Some(behind)
         }
-        Step::Second(y, behind) => {
+        Ok(Step::Second(y, behind)) => {
             write_kind(out, 2);
             write_own(out, file2, y);
             frames::end_frame(out);
-            Next::At(behind)
+            Some(behind)
         }
-        Step::Changed(x, y, behind) => {
+        Ok(Step::Changed(x, y, behind)) => {
             write_kind(out, 3);
             write_own(out, file1, x);
             write_own(out, file2, y);
             frames::end_frame(out);
-            Next::At(behind)
+            Some(behind)
         }
-        Step::End(_) => Next::Over,
-        Step::Refused(_, r) => {
+        Ok(Step::End(_)) => None,
+        Err((_, r)) => {
             frames::write_refusal(out, r);
-            Next::Over
+            None
         }
     }
 }
@@ -107,10 +105,10 @@ fn write_differences<W: Write>(out: &mut W, file1: &[u8], one: Record, file2: &[
     loop {
         let step = compare::step(at, file1, one, file2, two);
         match write_step(out, file1, file2, step) {
-            Next::At(behind) => {
+            Some(behind) => {
                 at = behind;
             }
-            Next::Over => return,
+            None => return,
         }
     }
 }
@@ -118,8 +116,8 @@ fn write_differences<W: Write>(out: &mut W, file1: &[u8], one: Record, file2: &[
 // The second book, beside the first, which opened.
 fn beside<W: Write>(out: &mut W, file1: &[u8], one: Record, file2: &[u8]) {
     match open_file(file2) {
-        Opened::Book(two) => write_differences(out, file1, one, file2, two),
-        Opened::Refused(r) => {
+        Ok(two) => write_differences(out, file1, one, file2, two),
+        Err(r) => {
             frames::write_refusal(out, r);
         }
     }
@@ -127,8 +125,8 @@ fn beside<W: Write>(out: &mut W, file1: &[u8], one: Record, file2: &[u8]) {
 
 fn write_comparison<W: Write>(out: &mut W, file1: &[u8], file2: &[u8]) {
     match open_file(file1) {
-        Opened::Book(one) => beside(out, file1, one, file2),
-        Opened::Refused(r) => {
+        Ok(one) => beside(out, file1, one, file2),
+        Err(r) => {
             frames::write_refusal(out, r);
         }
     }

@@ -1,13 +1,16 @@
 -- Comparison cursors, differences and the answers of a comparison as numbers for C.
-use Rattle.std.specs.Prelude.{ℕ, ◌+◌, ◌*◌, ◌^◌, List, [], ◌∷◌, ◌++◌, get_or}
+use Rattle.std.specs.Prelude.{ℕ, ◌+◌, ◌*◌, ◌^◌, List, [], ◌∷◌, ◌++◌, get_or, Result, Ok, Err}
 use Rattle.page.specs.Page.{five_of}
 use Rattle.walk.specs.declared.Walk.{Walk}
 use Rattle.turn.specs.declared.Totals.{Totals}
 use Rattle.turn.specs.declared.Cursor.{Cursor}
 use Rattle.turn.specs.declared.Shown.{Shown}
 use Rattle.turn.specs.declared.Step.{Step}
-use Rattle.turn.specs.declared.Step.TheVariants.{First, Second, Changed, End, Refused}
+use Rattle.turn.specs.declared.Step.TheVariants.{First, Second, Changed, End}
 use Rattle.numbers.specs.Numbers.{refusal_code}
+use Rattle.refusals.specs.declared.Refusal.{Refusal}
+use Rattle.turn.specs.Turn.{which_number}
+use Rattle.turn.specs.declared.Which.{Which}
 
 -- ---- a cursor as fourteen numbers: two walks in the order of their fields, then the totals
 
@@ -41,30 +44,30 @@ fifteen_of kind x y = kind ∷ (seven_of x ++ seven_of y)
 
 -- ---- the answer of a step: 0 and a difference with the cursor moved on, 255 and the totals, or the refusal plus 2^40 times its book's number
 
-abbrev pub compare_code : Step → ℕ
-compare_code (First x at) = 0
-compare_code (Second y at) = 0
-compare_code (Changed x y at) = 0
-compare_code (End t) = 255
-compare_code (Refused k r) = refusal_code r + 2 ^ 40 * k
+abbrev pub compare_code : Result Step (Which × Refusal) → ℕ
+compare_code (Ok (First x at)) = 0
+compare_code (Ok (Second y at)) = 0
+compare_code (Ok (Changed x y at)) = 0
+compare_code (Ok (End t)) = 255
+compare_code (Err (k, r)) = refusal_code r + 2 ^ 40 * which_number k
 
-abbrev pub compare_cursor : Step → List ℕ → List ℕ
-compare_cursor (First x at) was = walks_numbers at
-compare_cursor (Second y at) was = walks_numbers at
-compare_cursor (Changed x y at) was = walks_numbers at
-compare_cursor (End t) was = was
-compare_cursor (Refused k r) was = was
+abbrev pub compare_cursor : Result Step (Which × Refusal) → List ℕ → List ℕ
+compare_cursor (Ok (First x at)) was = walks_numbers at
+compare_cursor (Ok (Second y at)) was = walks_numbers at
+compare_cursor (Ok (Changed x y at)) was = walks_numbers at
+compare_cursor (Ok (End t)) was = was
+compare_cursor (Err (k, r)) was = was
 
-abbrev pub compare_numbers : Step → List ℕ → List ℕ
-compare_numbers (First x at) was = fifteen_of 1 x nothing
-compare_numbers (Second y at) was = fifteen_of 2 nothing y
-compare_numbers (Changed x y at) was = fifteen_of 3 x y
-compare_numbers (End t) was = was
-compare_numbers (Refused k r) was = was
+abbrev pub compare_numbers : Result Step (Which × Refusal) → List ℕ → List ℕ
+compare_numbers (Ok (First x at)) was = fifteen_of 1 x nothing
+compare_numbers (Ok (Second y at)) was = fifteen_of 2 nothing y
+compare_numbers (Ok (Changed x y at)) was = fifteen_of 3 x y
+compare_numbers (Ok (End t)) was = was
+compare_numbers (Err (k, r)) was = was
 
-abbrev pub compare_totals : Step → List ℕ → List ℕ
-compare_totals (First x at) was = was
-compare_totals (Second y at) was = was
-compare_totals (Changed x y at) was = was
-compare_totals (End t) was = total_numbers t
-compare_totals (Refused k r) was = was
+abbrev pub compare_totals : Result Step (Which × Refusal) → List ℕ → List ℕ
+compare_totals (Ok (First x at)) was = was
+compare_totals (Ok (Second y at)) was = was
+compare_totals (Ok (Changed x y at)) was = was
+compare_totals (Ok (End t)) was = total_numbers t
+compare_totals (Err (k, r)) was = was

@@ -5,7 +5,7 @@ ghost use Rattle.std.specs.Prelude.{◌≡◌};
 ghost use Rattle.differences.specs.Differences.{walks_in, walks_numbers, nothing, fifteen_of, compare_code, compare_cursor, compare_numbers, compare_totals};
 
 use report::{Own, Report};
-use turn::{Cursor, Shown, Step, Totals};
+use turn::{BookRefusal, Cursor, Shown, Step, Totals};
 use walk::Walk;
 
 // The comparison cursor of fourteen numbers.
@@ -86,7 +86,7 @@ fn fifteen(kind: u64, x: Shown, y: Shown) -> [u64; 15]
 
 // What a step of a comparison answers: a difference with the cursor moved on, the totals at the end, or the refusal beside its book.
 pub fn tell_comparison(
-    step: Step,
+    step: Result<Step, BookRefusal>,
     cursor: &mut [u64; 14],
     difference: &mut [u64; 15],
     totals: &mut [u64; 4],
@@ -97,25 +97,25 @@ pub fn tell_comparison(
     ensures totals { totals.new ≡ compare_totals step totals.old }
 {
     match step {
-        Step::First(x, next) => {
+        Ok(Step::First(x, next)) => {
             *cursor = walks_numbers(next);
             *difference = fifteen(1, x, no_entry());
             0
         }
-        Step::Second(y, next) => {
+        Ok(Step::Second(y, next)) => {
             *cursor = walks_numbers(next);
             *difference = fifteen(2, no_entry(), y);
             0
         }
-        Step::Changed(x, y, next) => {
+        Ok(Step::Changed(x, y, next)) => {
             *cursor = walks_numbers(next);
             *difference = fifteen(3, x, y);
             0
         }
-        Step::End(t) => {
+        Ok(Step::End(t)) => {
             *totals = [t.first, t.second, t.same, t.changed];
             255
         }
-        Step::Refused(k, r) => numbers::code(r) + 0x100_0000_0000 * (k as u64),
+        Err((book, r)) => numbers::code(r) + 0x100_0000_0000 * (book.number() as u64),
     }
 }

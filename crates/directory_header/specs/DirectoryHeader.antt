@@ -1,11 +1,11 @@
 -- The directory's header: one test for each of the refusals 6 and 7, and what a header that passes says. d is the 84 bytes of the header.
-use Rattle.std.specs.Prelude.{ℕ, ◌+◌, ◌*◌, List, [], ◌∷◌, Bool, cond, not, ◌&&◌, ◌||◌, ltb, leb, eqb}
+use Rattle.std.specs.Prelude.{ℕ, ◌+◌, ◌*◌, List, [], ◌∷◌, Bool, cond, not, ◌&&◌, ◌||◌, ltb, leb, eqb, Result, Ok, Err}
 use Rattle.fields.specs.Le.{le}
 use Rattle.fields.specs.Same.{stands_at}
 use Rattle.refusals.specs.Refusals.{no_chunk}
 use Rattle.directory_header.specs.declared.DirectoryFields.{DirectoryFields}
-use Rattle.directory_header.specs.declared.CheckedDirectoryHeader.{CheckedDirectoryHeader}
-use Rattle.directory_header.specs.declared.CheckedDirectoryHeader.TheVariants.{Good, Refused}
+use Rattle.refusals.specs.declared.Rule.TheVariants.{DirectoryTags, WrongDirectory}
+use Rattle.refusals.specs.declared.Rule.{Rule}
 
 -- ---- what it says
 
@@ -74,5 +74,5 @@ directory_right f n = bounds_right f && filled f n && ends_right f && root_right
 -- ---- the whole
 
 -- n is the directory's length (FORMAT RO1, RO4)
-unfoldable pub directory_header_of : List ℕ → ℕ → CheckedDirectoryHeader
-directory_header_of d n = cond (directory_tagged d) (cond (directory_right (directory_fields_of d) n) (Good (directory_fields_of d)) (Refused 7)) (Refused 6)
+unfoldable pub directory_header_of : List ℕ → ℕ → Result DirectoryFields Rule
+directory_header_of d n = cond (directory_tagged d) (cond (directory_right (directory_fields_of d) n) (Ok (directory_fields_of d)) (Err WrongDirectory)) (Err DirectoryTags)

@@ -5,6 +5,8 @@ ghost use Rattle.std.specs.Prelude.{◌≡◌};
 ghost use Rattle.fields.specs.Le.{le};
 ghost use Rattle.directory_header.specs.DirectoryHeader.{directory_tagged, within, bounds_right, ends_right, root_right, directory_right, directory_fields_of, directory_header_of};
 
+use refusals::Rule;
+
 // What the directory's header says: the chunk size, density, depth, root, the first and the last listing chunk, the chunk count.
 #[derive(Clone, Copy)]
 pub struct DirectoryFields {
@@ -15,13 +17,6 @@ pub struct DirectoryFields {
     pub first: u64,
     pub last: u64,
     pub count: u64,
-}
-
-// A directory's header that keeps the rules, or the number of the refusal, 6 or 7.
-#[derive(Clone, Copy)]
-pub enum CheckedDirectoryHeader {
-    Good(DirectoryFields),
-    Refused(u8),
 }
 
 fn word(d: &[u8], at: usize) -> u64
@@ -45,6 +40,7 @@ fn fields_of(d: &[u8]) -> DirectoryFields
 }
 
 // Refusal 6: the directory's tag, its version, the header length at both places, and the GUID.
+#[tactic(auto, unfolding(crate::specs::DirectoryHeader::directory_tagged))]
 fn directory_tagged(d: &[u8]) -> bool
     ensures { result ≡ directory_tagged d.now }
 {
@@ -78,6 +74,7 @@ fn is_within(low: u64, high: u64, x: u64) -> bool
 }
 
 // Chunk size, density, depth and count.
+#[tactic(auto, unfolding(crate::specs::DirectoryHeader::bounds_right))]
 fn bounds_right(f: DirectoryFields) -> bool
     ensures { result ≡ bounds_right f }
 {
@@ -94,6 +91,7 @@ fn bounds_right(f: DirectoryFields) -> bool
 }
 
 // The first and the last listing chunk.
+#[tactic(auto, unfolding(crate::specs::DirectoryHeader::ends_right))]
 fn ends_right(f: DirectoryFields) -> bool
     ensures { result ≡ ends_right f }
 {
@@ -104,6 +102,7 @@ fn ends_right(f: DirectoryFields) -> bool
 }
 
 // The root, by depth and count.
+#[tactic(auto, unfolding(crate::specs::DirectoryHeader::root_right))]
 fn root_right(f: DirectoryFields) -> bool
     ensures { result ≡ root_right f }
 {
@@ -123,6 +122,7 @@ fn root_right(f: DirectoryFields) -> bool
 }
 
 // Refusal 7: what the header says, with the directory's length n.
+#[tactic(auto, unfolding(crate::specs::DirectoryHeader::directory_right))]
 fn directory_right(f: DirectoryFields, n: u64) -> bool
     ensures { result ≡ directory_right f n }
 {
@@ -139,15 +139,16 @@ fn directory_right(f: DirectoryFields, n: u64) -> bool
 }
 
 // The checks 6 and 7, then what the header says. n is the directory's length.
-pub fn check(d: &[u8], n: u64) -> CheckedDirectoryHeader
+#[tactic(auto, unfolding(crate::specs::DirectoryHeader::directory_header_of))]
+pub fn check(d: &[u8], n: u64) -> Result<DirectoryFields, Rule>
     ensures { result ≡ directory_header_of d.now n }
 {
     if !directory_tagged(d) {
-        return CheckedDirectoryHeader::Refused(6);
+        return Err(Rule::DirectoryTags);
     }
     let f = fields_of(d);
     if !directory_right(f, n) {
-        return CheckedDirectoryHeader::Refused(7);
+        return Err(Rule::WrongDirectory);
     }
-    CheckedDirectoryHeader::Good(f)
+    Ok(f)
 }

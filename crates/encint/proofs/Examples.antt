@@ -1,8 +1,7 @@
 -- Examples of ENCINTs: numbers of one to nine bytes, with leading bytes 80 and without, and bytes that are refused.
-use Rattle.fields.proofs.Base.{◌≡◌, refl, List, [], ◌∷◌, ◌++◌, ℕ, ◌-◌, ◌^◌, length, replicate}
+use Rattle.fields.proofs.Base.{◌≡◌, refl, List, [], ◌∷◌, ◌++◌, ℕ, ◌-◌, ◌^◌, length, replicate, Some, None}
 use Rattle.encint.specs.Encint.{rest, decoded, encint_at, seven_bit_groups, leading, encoded}
 use Rattle.encint.specs.Padded.{padded}
-use Rattle.encint.specs.declared.Number.TheVariants.{Value, Bad}
 
 -- bytes, the value they stand for, and how many leading bytes 80 they have
 record Example : Type 0 where
@@ -21,11 +20,11 @@ behind k e = record { bytes = e.bytes; value = e.value; padding = k }
 abbrev Accepted : List Example → Type 0
 Accepted [] = Unit {0}
 Accepted (e ∷ es) =
-    (encint_at e.bytes 0 ≡ Value e.value (length e.bytes)) × (e.bytes ≡ padded e.padding e.value) × Accepted es
+    (encint_at e.bytes 0 ≡ Some (e.value, length e.bytes)) × (e.bytes ≡ padded e.padding e.value) × Accepted es
 
 abbrev Refused : List (List ℕ) → Type 0
 Refused [] = Unit {0}
-Refused (l ∷ ls) = (encint_at l 0 ≡ Bad) × Refused ls
+Refused (l ∷ ls) = (encint_at l 0 ≡ None) × Refused ls
 
 -- N9
 pub read_examples :

@@ -1,12 +1,10 @@
 -- Bytes that are read as v are leading bytes 80 and the short form of v, and such bytes are read as v.
-use Rattle.fields.proofs.Base.{◌≡◌, ap, ap₂, sym, subst, ◌∙◌, List, [], ◌∷◌, ◌++◌, append_assoc, ℕ, zero, suc, ◌+◌, ◌-◌, ◌*◌, ◌/◌, ◌%◌, ◌^◌, ◌≤◌, ◌<◌, pow-suc, pow-succ', zero-add, div-eq_of_lt, pow-le-pow_right, lt_of_lt_of_le, sub-one, dec_lt, arith, lit<, length, get_or, take, drop, replicate, length-append, length-replicate, get_or-drop, take_at}
+use Rattle.fields.proofs.Base.{◌≡◌, ap, ap₂, sym, subst, ◌∙◌, List, [], ◌∷◌, ◌++◌, append_assoc, ℕ, zero, suc, ◌+◌, ◌-◌, ◌*◌, ◌/◌, ◌%◌, ◌^◌, ◌≤◌, ◌<◌, pow-suc, pow-succ', zero-add, div-eq_of_lt, pow-le-pow_right, lt_of_lt_of_le, sub-one, dec_lt, arith, lit<, length, get_or, take, drop, replicate, length-append, length-replicate, get_or-drop, take_at, Option, Some, none-some, some_pair_parts}
 use native.Mathlib.Nat.{div-one, one-mul, suc-add, div-div-eq-div-mul, div-lt_iff_lt-mul, one-le-pow}
 use Rattle.fields.proofs.Parts.{part_rest}
 use Rattle.encint.specs.Encint.{rest, encint_at, seven_bit_groups, leading, encoded}
 use Rattle.encint.specs.Padded.{padded, PaddedAt, ReadExact}
-use Rattle.encint.specs.declared.Number.{Number}
-use Rattle.encint.specs.declared.Number.TheVariants.{Value}
-use Rattle.encint.proofs.Reading.{rest_last, rest_more, bad_no_value, at_number}
+use Rattle.encint.proofs.Reading.{rest_last, rest_more, at_number}
 use Rattle.encint.proofs.Writing.{leading_append, encoded_is, length_encoded, groups_zero, groups_more, groups_are}
 use Rattle.encint.proofs.RoundTrip.{read_all}
 
@@ -78,15 +76,16 @@ read_more n w at b l v m p q r =
       few = omega arith;
     }
 
-read : (n w at : ℕ) (l : List ℕ) (v m : ℕ) → ((i : ℕ) → get_or l i 0 < 256) → rest n w at l ≡ Value v m → Read n w at l v m
+read : (n w at : ℕ) (l : List ℕ) (v m : ℕ) → ((i : ℕ) → get_or l i 0 < 256) → rest n w at l ≡ Some (v, m) → Read n w at l v m
 unfolding rest
-read zero w at l v m h e = bad_no_value e
-read (suc n) w at [] v m h e = bad_no_value e
+read zero w at l v m h e = absurd (none-some _ e)
+read (suc n) w at [] v m h e = absurd (none-some _ e)
 read (suc n) w at (b ∷ l) v m h e =
     elim (dec_lt b 128) [
       | yes p ↦
-          let f : Value (w * 128 + b % 128) (at + 1) ≡ Value v m = sym (rest_last (suc n) w at b l (omega arith) p) ∙ e in
-          read_last n w at b l v m p (cc) (cc)
+          let f : ◌≡◌ {A = Option (ℕ × ℕ)} (Some (w * 128 + b % 128, at + 1)) (Some (v, m)) = sym (rest_last (suc n) w at b l (omega arith) p) ∙ e in
+          let q = some_pair_parts _ _ _ _ f in
+          read_last n w at b l v m p q.0 q.1
       | no p ↦
           read_more n w at b l v m (omega arith) (h 0)
           (read n (w * 128 + b % 128) (at + 1) l v m (λ i. h (suc i)) (rw sub-one at (sym (rest_more (suc n) w at b l (omega arith) (omega arith)) ∙ e)))
@@ -115,7 +114,7 @@ module _ (v : ℕ) (h : v < 2 ^ 63) where
       (sym (leading_padded k g (v / 128) (v % 128 ∷ t) (groups_are 8 (v / 128) (omega arith)).all))
 
 module _ (s : List ℕ) (at : ℕ) where
-  pub encint_padded : (k v : ℕ) → PaddedAt s at k v → encint_at s at ≡ Value v (at + (k + length (encoded v)))
+  pub encint_padded : (k v : ℕ) → PaddedAt s at k v → encint_at s at ≡ Some (v, at + (k + length (encoded v)))
   encint_padded k v p =
       let n : ℕ = k + length (encoded v) in
       let c : length (encoded v) ≡ seven_bit_groups 8 (v / 128) + 1 = length_encoded v p.small in
@@ -127,9 +126,9 @@ module _ (s : List ℕ) (at : ℕ) where
       at_number s at
       ∙ ap (rest 9 0 at) l
       ∙ read_all (v / 128) (k + seven_bit_groups 8 (v / 128)) (v % 128) at (drop (at + n) s) (omega arith) m (omega arith)
-      ∙ ap₂ Value (omega arith) (omega arith)
+      ∙ ap₂ (λ (v n : ℕ). Some (v, n)) (omega arith) (omega arith)
 
-  pub padded_encint : ((i : ℕ) → get_or s i 0 < 256) → (v next : ℕ) → encint_at s at ≡ Value v next → (k : ℕ) × PaddedAt s at k v × (next ≡ at + (k + length (encoded v)))
+  pub padded_encint : ((i : ℕ) → get_or s i 0 < 256) → (v next : ℕ) → encint_at s at ≡ Some (v, next) → (k : ℕ) × PaddedAt s at k v × (next ≡ at + (k + length (encoded v)))
   padded_encint b v next e =
       let r = read 9 0 at (drop at s) v next (λ i. rw get_or-drop (b (at + i))) (sym (at_number s at) ∙ e) in
       let w : v / 128 < 128 ^ r.k = whole v r.k r.before in
@@ -150,5 +149,5 @@ module _ (s : List ℕ) (at : ℕ) where
   read_exact b = record { says = padded_encint b; reads = encint_padded }
 
   -- an answer that is the reading
-  pub answer_exact : ((i : ℕ) → get_or s i 0 < 256) → (r : Number) → r ≡ encint_at s at → (r ≡ encint_at s at) × ReadExact s at r
+  pub answer_exact : ((i : ℕ) → get_or s i 0 < 256) → (r : Option (ℕ × ℕ)) → r ≡ encint_at s at → (r ≡ encint_at s at) × ReadExact s at r
   answer_exact b r e = (e, subst (ReadExact s at) (sym e) (read_exact b))

@@ -1,7 +1,6 @@
 -- What was written is read back, whatever stands before and behind it.
-use Rattle.fields.proofs.Base.{◌≡◌, ap, ap₂, ◌∙◌, List, ◌∷◌, ◌++◌, ℕ, zero, suc, ◌+◌, ◌-◌, ◌*◌, ◌/◌, ◌%◌, ◌^◌, ◌≤◌, ◌<◌, pow-suc, zero-add, add-zero, sub-one, arith, length}
+use Rattle.fields.proofs.Base.{◌≡◌, ap, ap₂, ◌∙◌, List, ◌∷◌, ◌++◌, ℕ, zero, suc, ◌+◌, ◌-◌, ◌*◌, ◌/◌, ◌%◌, ◌^◌, ◌≤◌, ◌<◌, pow-suc, zero-add, add-zero, sub-one, arith, length, Some}
 use Rattle.encint.specs.Encint.{rest, decoded, seven_bit_groups, leading, encoded}
-use Rattle.encint.specs.declared.Number.TheVariants.{Value}
 use Rattle.encint.proofs.Reading.{rest_last, rest_more}
 use Rattle.encint.proofs.Writing.{leading_append, encoded_is, length_encoded, groups_are}
 
@@ -19,7 +18,7 @@ read_leading (suc n) g w at l h =
     (rw (rest_more (suc g) (w / 128) (at + n) (128 + w % 128) l (omega arith) (omega arith), d, f, sub-one))
 
 -- at most eight leading groups, and the last byte
-pub read_all : (w k b at : ℕ) (t : List ℕ) → k ≤ 8 → w < 128 ^ k → b < 128 → rest 9 0 at (leading k w (b ∷ t)) ≡ Value (w * 128 + b % 128) (at + k + 1)
+pub read_all : (w k b at : ℕ) (t : List ℕ) → k ≤ 8 → w < 128 ^ k → b < 128 → rest 9 0 at (leading k w (b ∷ t)) ≡ Some (w * 128 + b % 128, at + k + 1)
 read_all w k b at t m h l =
     let e : 9 ≡ k + (9 - k) = omega arith in
     ap (λ (n : ℕ). rest n 0 at (leading k w (b ∷ t))) e
@@ -30,10 +29,10 @@ read_all w k b at t m h l =
 
 module _ (v : ℕ) (h : v < 2 ^ 63) where
   -- at the beginning of a list that stands at the place `at`
-  pub round_trip : (at : ℕ) (t : List ℕ) → decoded at (encoded v ++ t) ≡ Value v (at + length (encoded v))
+  pub round_trip : (at : ℕ) (t : List ℕ) → decoded at (encoded v ++ t) ≡ Some (v, at + length (encoded v))
   unfolding decoded
   round_trip at t =
       let k : ℕ = seven_bit_groups 8 (v / 128) in
       let r = groups_are 8 (v / 128) (omega arith) in
       let e : encoded v ++ t ≡ leading k (v / 128) (v % 128 ∷ t) = rw (encoded_is v h, leading_append) in
-      rw e (read_all (v / 128) k (v % 128) at t r.few r.all (omega arith) ∙ ap₂ Value (omega arith) (omega (arith, length_encoded v h)))
+      rw e (read_all (v / 128) k (v % 128) at t r.few r.all (omega arith) ∙ ap₂ (λ (v n : ℕ). Some (v, n)) (omega arith) (omega (arith, length_encoded v h)))

@@ -1,26 +1,24 @@
 -- ENCINT: seven bits a byte, most significant first; the high bit says that a byte follows. One to nine bytes, so a value is below 2 ^ 63.
 -- A leading 80 hex is seven zero bits; what is written has none (FORMAT, Numbers).
-use Rattle.std.specs.Prelude.{ℕ, zero, suc, ◌+◌, ◌*◌, ◌/◌, ◌%◌, ◌^◌, cond, List, [], ◌∷◌, drop, ltb, eqb}
-use Rattle.encint.specs.declared.Number.{Number}
-use Rattle.encint.specs.declared.Number.TheVariants.{Value, Bad}
+use Rattle.std.specs.Prelude.{ℕ, zero, suc, ◌+◌, ◌*◌, ◌/◌, ◌%◌, ◌^◌, cond, List, [], ◌∷◌, drop, ltb, eqb, Option, Some, None}
 
 -- ---- reading
 
 -- the rest of a number of which v was read, in at most n bytes more; l stands at the place `at`
-unfoldable pub rest : ℕ → ℕ → ℕ → List ℕ → Number
-rest zero v at l = Bad
-rest (suc n) v at [] = Bad
+unfoldable pub rest : ℕ → ℕ → ℕ → List ℕ → Option (ℕ × ℕ)
+rest zero v at l = None
+rest (suc n) v at [] = None
 rest (suc n) v at (b ∷ l) =
     let w = v * 128 + b % 128 in
     let r = rest n w (at + 1) l in
-    cond (ltb b 128) (Value w (at + 1)) r
+    cond (ltb b 128) (Some (w, at + 1)) r
 
 -- the number that begins l, which stands at the place `at`
-unfoldable pub decoded : ℕ → List ℕ → Number
+unfoldable pub decoded : ℕ → List ℕ → Option (ℕ × ℕ)
 decoded at l = rest 9 0 at l
 
 -- the number that stands in s at `at`, not past the end of s
-unfoldable pub encint_at : List ℕ → ℕ → Number
+unfoldable pub encint_at : List ℕ → ℕ → Option (ℕ × ℕ)
 encint_at s at = decoded at (drop at s)
 
 -- ---- writing

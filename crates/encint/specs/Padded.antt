@@ -1,9 +1,7 @@
 -- Which bytes are read as a value: its short form, with leading bytes 80 or none (FORMAT N3, N4).
-use Rattle.std.specs.Prelude.{ℕ, ◌+◌, ◌^◌, ◌≤◌, ◌<◌, ◌≡◌, List, ◌++◌, length, replicate}
+use Rattle.std.specs.Prelude.{ℕ, ◌+◌, ◌^◌, ◌≤◌, ◌<◌, ◌≡◌, List, ◌++◌, length, replicate, Option, Some}
 use Rattle.fields.specs.Part.{part}
 use Rattle.encint.specs.Encint.{encoded}
-use Rattle.encint.specs.declared.Number.{Number}
-use Rattle.encint.specs.declared.Number.TheVariants.{Value}
 
 -- the short form of v behind k bytes 80
 abbrev pub padded : ℕ → ℕ → List ℕ
@@ -16,8 +14,8 @@ pub record PaddedAt (s : List ℕ) (at k v : ℕ) : Type 0 where
   pub bytes : part s at (k + length (encoded v)) ≡ padded k v
 
 -- a reading of s at `at` is exact
-pub record ReadExact (s : List ℕ) (at : ℕ) (r : Number) : Type 0 where
+pub record ReadExact (s : List ℕ) (at : ℕ) (r : Option (ℕ × ℕ)) : Type 0 where
   -- what it says of the bytes: as many as it took, they are bytes 80, or none, and the value's short form;
-  pub says : (v next : ℕ) → r ≡ Value v next → (k : ℕ) × PaddedAt s at k v × (next ≡ at + (k + length (encoded v)))
+  pub says : (v next : ℕ) → r ≡ Some (v, next) → (k : ℕ) × PaddedAt s at k v × (next ≡ at + (k + length (encoded v)))
   -- and such bytes are read so
-  pub reads : (k v : ℕ) → PaddedAt s at k v → r ≡ Value v (at + (k + length (encoded v)))
+  pub reads : (k v : ℕ) → PaddedAt s at k v → r ≡ Some (v, at + (k + length (encoded v)))

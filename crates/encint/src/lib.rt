@@ -7,13 +7,6 @@ ghost use Rattle.put.specs.Put.{put};
 ghost use Rattle.encint.specs.Encint.{rest, encint_at, leading, encoded};
 ghost use Rattle.encint.specs.Padded.{ReadExact};
 
-// A number that was read, with the place behind it.
-#[derive(Clone, Copy)]
-pub enum Number {
-    Value(u64, usize),
-    Bad,
-}
-
 // Where a number at `at` ends at the latest: nine bytes on, or at the end of a slice of `len` bytes.
 fn reach(len: usize, at: usize) -> usize
     ensures { result ≡ min len (at + 9) }
@@ -28,44 +21,42 @@ fn reach(len: usize, at: usize) -> usize
 }
 
 // The number at `at`, of any length up to nine bytes.
-fn groups_at(s: &[u8], at: usize) -> Number
+fn groups_at(s: &[u8], at: usize) -> Option<(u64, usize)>
     ensures { result ≡ rest 9 0 at (drop at s.now) }
 {
     let end = reach(s.len(), at);
     let mut v: u64 = 0;
-    let mut i = at;
-    while i < end {
+    for i in at..end {
         let b = s[i];
         v = v * 128 + (b % 128) as u64;
-        i += 1;
         if b < 128 {
-            return Number::Value(v, i);
+            return Some((v, i + 1));
         }
     }
-    Number::Bad
+    None
 }
 
-// The number at `at`, not past the end of s. Most numbers of a directory have one byte, so that case comes first. A byte that is to be followed by another
+// The number at `at`, not past the end of s, and the place behind it. Most numbers of a directory have one byte, so that case comes first. A byte that is to be followed by another
 // must not be the last (DECISIONS 79 says what this test is worth).
-pub fn read(s: &[u8], at: usize) -> Number
+pub fn read(s: &[u8], at: usize) -> Option<(u64, usize)>
     ensures number { result ≡ encint_at s.now at }
     ensures exact { ReadExact s.now at result }
 {
     if s.len() <= at {
-        return Number::Bad;
+        return None;
     }
     let b = s[at];
     let next = at + 1;
     if b < 128 {
-        return Number::Value(b as u64, next);
+        return Some((b as u64, next));
     }
     if s.len() <= next {
-        return Number::Bad;
+        return None;
     }
     groups_at(s, at)
 }
 
-// How many bytes v takes; 0 for 2^63 and above.
+// How many bytes v takes; 0 for 2^63 and above. No option: the clauses here and at `write` have 0, and callers add it to a place.
 pub fn size(v: u64) -> usize
     ensures { result ≡ length (encoded v) }
 {
@@ -87,9 +78,7 @@ fn write_leading(out: &mut [u8], at: usize, w: u64, n: usize)
     ensures { out.new ≡ take at out.old ++ leading n w (drop (at + n) out.old) }
 {
     let mut x = w;
-    let mut j = n;
-    while 0 < j {
-        j -= 1;
+    for j in (0..n).rev() {
         out[at + j] = (128 + x % 128) as u8;
         x = x / 128;
     }

@@ -1,18 +1,16 @@
 -- A listing entry that was read stands there, each of its numbers in its short form behind bytes 80 or none; it is unpadded exactly where its own
 -- bytes are those that are written for it.
-use Rattle.fields.proofs.Base.{◌≡◌, sym, ap, ap₂, ◌∙◌, ◌↔◌, true, List, ◌++◌, ℕ, ◌+◌, ◌-◌, ◌≤◌, ◌<◌, arith, length, get_or, drop, length-append, eq-eqb, eqb-true}
+use Rattle.fields.proofs.Base.{◌≡◌, sym, ap, ap₂, ◌∙◌, ◌↔◌, true, List, ◌++◌, ℕ, ◌+◌, ◌-◌, ◌≤◌, ◌<◌, arith, length, get_or, drop, length-append, eq-eqb, eqb-true, Some}
 use Rattle.fields.specs.Part.{part}
 use Rattle.fields.proofs.Parts.{length_part, part_add, part_rest}
 use Rattle.encint.specs.Encint.{encint_at, encoded}
 use Rattle.encint.specs.Padded.{padded}
-use Rattle.encint.specs.declared.Number.TheVariants.{Value}
 use Rattle.encint.proofs.Padded.{padded_encint, length_padded}
 use Rattle.entries.specs.Entry.{listing_at, name_of}
 use Rattle.entries.specs.Padded.{PaddedEntry}
 use Rattle.entries.specs.Stored.{Stored, stored_of, entry_bytes, unpadded}
 use Rattle.entries.specs.declared.Kind.TheVariants.{Listing}
 use Rattle.entries.specs.declared.Place.{Place}
-use Rattle.entries.specs.declared.Item.TheVariants.{Good}
 use Rattle.entries.proofs.Laws.{name_number, listing_apart, listing_inside}
 
 length_five : (a b c d e : List ℕ) → length (a ++ (b ++ (c ++ (d ++ e)))) ≡ length a + length b + length c + length d + length e
@@ -48,7 +46,7 @@ none_ahead bytes e p n =
 
 module _ (s : List ℕ) (bytes : (i : ℕ) → get_or s i 0 < 256) where
   -- the bytes that a number was read from
-  number_stands : (at v next : ℕ) → encint_at s at ≡ Value v next → (k : ℕ) × (part s at (next - at) ≡ padded k v) × (next ≡ at + (k + length (encoded v)))
+  number_stands : (at v next : ℕ) → encint_at s at ≡ Some (v, next) → (k : ℕ) × (part s at (next - at) ≡ padded k v) × (next ≡ at + (k + length (encoded v)))
   number_stands at v next e =
       let p = padded_encint s at bytes v next e in
       let n : next - at ≡ p.0 + length (encoded v) = omega (arith, p.2) in
@@ -61,7 +59,7 @@ module _ (s : List ℕ) (bytes : (i : ℕ) → get_or s i 0 < 256) where
       let m : at + (mid - at) ≡ mid = omega arith in
       ap (part s at) n ∙ part_add s at (mid - at) (next - mid) ∙ ap (λ (i : ℕ). part s at (mid - at) ++ part s i (next - mid)) m
 
-  pub entry_stands : (content at : ℕ) (e : Place) → listing_at content s at ≡ Good e
+  pub entry_stands : (content at : ℕ) (e : Place) → listing_at content s at ≡ Some e
       → (p : PaddedEntry (part s e.at (e.next - e.at)) (name_of s e) e.section e.offset e.size) × (e.start ≡ e.at + (p.ahead + length (encoded e.len)))
   entry_stands content at e q =
       let a = listing_apart content s at e q in
@@ -89,7 +87,7 @@ module _ (s : List ℕ) (bytes : (i : ℕ) → get_or s i 0 < 256) where
         n.2,
       )
 
-  module _ (content at : ℕ) (e : Place) (q : listing_at content s at ≡ Good e) where
+  module _ (content at : ℕ) (e : Place) (q : listing_at content s at ≡ Some e) where
     own_length : length (part s e.at (e.next - e.at)) ≡ e.next - e.at
     own_length =
         let i = listing_inside content s at e q in

@@ -4,8 +4,6 @@
 ghost use Rattle.std.specs.Prelude.{◌≡◌};
 ghost use Rattle.entries.specs.Entry.{name_at, listing_at, index_at, item_at};
 
-use encint::Number;
-
 // The two kinds of chunks, and so of entries.
 #[derive(Clone, Copy)]
 pub enum Kind {
@@ -34,61 +32,44 @@ pub struct Place {
     pub next: usize,
 }
 
-// What stands at a place: an entry, or none that keeps the rules.
-#[derive(Clone, Copy)]
-pub enum Item {
-    Good(Place),
-    Bad,
-}
-
 // The length of the name of the entry at a place, and the name's place.
-pub fn name_at(c: &[u8], at: usize) -> Number
+pub fn name_at(c: &[u8], at: usize) -> Option<(u64, usize)>
     ensures { result ≡ name_at c.now at }
 {
-    let Number::Value(n, start) = encint::read(c, at) else {
-        return Number::Bad;
-    };
+    let (n, start) = encint::read(c, at)?;
     if n < 1 {
-        return Number::Bad;
+        return None;
     }
     if 1024 < n {
-        return Number::Bad;
+        return None;
     }
     if c.len() - start < n as usize {
-        return Number::Bad;
+        return None;
     }
-    Number::Value(n, start)
+    Some((n, start))
 }
 
 // The listing entry at a place.
-pub fn listing_at(c: &[u8], at: usize, content: u64) -> Item
+pub fn listing_at(c: &[u8], at: usize, content: u64) -> Option<Place>
     ensures { result ≡ listing_at content c.now at }
 {
-    let Number::Value(n, start) = name_at(c, at) else {
-        return Item::Bad;
-    };
+    let (n, start) = name_at(c, at)?;
     let len = n as usize;
-    let Number::Value(section, p1) = encint::read(c, start + len) else {
-        return Item::Bad;
-    };
-    let Number::Value(offset, p2) = encint::read(c, p1) else {
-        return Item::Bad;
-    };
-    let Number::Value(size, next) = encint::read(c, p2) else {
-        return Item::Bad;
-    };
+    let (section, p1) = encint::read(c, start + len)?;
+    let (offset, p2) = encint::read(c, p1)?;
+    let (size, next) = encint::read(c, p2)?;
     if 65535 < section {
-        return Item::Bad;
+        return None;
     }
     if section < 1 {
         if content < offset {
-            return Item::Bad;
+            return None;
         }
         if content - offset < size {
-            return Item::Bad;
+            return None;
         }
     }
-    Item::Good(Place {
+    Some(Place {
         at,
         start,
         len,
@@ -101,20 +82,16 @@ pub fn listing_at(c: &[u8], at: usize, content: u64) -> Item
 }
 
 // The index entry at a place.
-pub fn index_at(c: &[u8], at: usize, count: u64) -> Item
+pub fn index_at(c: &[u8], at: usize, count: u64) -> Option<Place>
     ensures { result ≡ index_at count c.now at }
 {
-    let Number::Value(n, start) = name_at(c, at) else {
-        return Item::Bad;
-    };
+    let (n, start) = name_at(c, at)?;
     let len = n as usize;
-    let Number::Value(child, next) = encint::read(c, start + len) else {
-        return Item::Bad;
-    };
+    let (child, next) = encint::read(c, start + len)?;
     if count <= child {
-        return Item::Bad;
+        return None;
     }
-    Item::Good(Place {
+    Some(Place {
         at,
         start,
         len,
@@ -127,7 +104,7 @@ pub fn index_at(c: &[u8], at: usize, count: u64) -> Item
 }
 
 // The entry at a place, of a chunk of a kind.
-pub fn item_at(c: &[u8], limits: Limits, kind: Kind, at: usize) -> Item
+pub fn item_at(c: &[u8], limits: Limits, kind: Kind, at: usize) -> Option<Place>
     ensures { result ≡ item_at limits kind c.now at }
 {
     match kind {

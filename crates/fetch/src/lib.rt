@@ -7,17 +7,13 @@ ghost use Rattle.fetch.specs.Fetch.{fetch_at, fetched, FoundStands};
 
 use header::Record;
 use lookup::Reply;
-use search::Finding;
-use seek::Child;
+use refusals::Rule;
 
 // What listing chunk c answers to a name.
 fn fetch_leaf(file: &[u8], book: Record, name: &[u8], c: u64) -> Reply
     ensures { result ≡ reply_to book (fetch_at file.now book name.now 1 c) }
 {
-    match search::find_in(file, book, name, c) {
-        Finding::Found(_, x) => Reply::Found(x),
-        Finding::Nothing(_) => Reply::Absent,
-    }
+    Ok(search::find_in(file, book, name, c).answer)
 }
 
 // The descent from chunk c of a level on.
@@ -28,10 +24,8 @@ fn fetch_from(file: &[u8], book: Record, name: &[u8], level: u64, c: u64) -> Rep
     let mut at = c;
     let mut left = level;
     while 1 < left {
-        let chosen = search::child_in(file, book, name, at);
-        let child = chosen.child;
-        let Child::Below(below) = child else {
-            return Reply::Absent;
+        let Some(below) = search::child_in(file, book, name, at).answer else {
+            return Ok(None);
         };
         at = below;
         left -= 1;
@@ -47,10 +41,10 @@ pub fn fetch(file: &[u8], book: Record, name: &[u8]) -> Reply
     ensures stands { FoundStands file.now name.now result }
 {
     if !names::is_askable(name) {
-        return Reply::Refused(refusals::refuse(15));
+        return Err(refusals::refuse(Rule::BadName));
     }
     if !book::record_fits(file, book) {
-        return Reply::Refused(refusals::refuse(17));
+        return Err(refusals::refuse(Rule::BadRecord));
     }
     fetch_from(file, book, name, book.depth, book::top_chunk(book))
 }

@@ -14,3 +14,5 @@ pub use lib.ListN.{length, drop, get_or, take, length-append, set, length-set, r
 pub use lib.Seq.{sets, length-take-le, drop-drop, take_at, get_or-drop, drop_at, drop-append-add, length-sets, take-take, take-append_seam, sets-eq}
 pub use borrow.Author.Tests.{eq-eqb, ne_eqb, le-leb, lt-ltb, lt-leb, le-ltb, eqb-true, leb-true, ltb-true, eqb-false, not-true}
 pub use borrow.Author.Rules.{rules}
+pub use Rattle.std.specs.Prelude.{Option, Some, None, Result, Ok, Err}
+pub use Rattle.std.proofs.lemmas.Option.{none-some, same_Some, some_pair_parts, cond_some}

@@ -1,9 +1,9 @@
 -- Laws of `same` and `stands_at`: the tests mean equality.
-use Rattle.fields.proofs.Base.{◌≡◌, refl, ap, ap₂, ◌∙◌, true, false, List, [], ◌∷◌, ℕ, suc, ◌+◌, ◌≤◌, ◌<◌, eqb, length, get_or, drop, drop_of_length-le, eqb-true, eq-eqb, ne_eqb, le-leb, lt-leb, leb-true}
+use Rattle.fields.proofs.Base.{◌≡◌, refl, ap, ap₂, ◌∙◌, true, false, ◌&&◌, List, [], ◌∷◌, ℕ, ◌+◌, ◌≤◌, ◌<◌, eqb, length, eqb-true, eq-eqb, le-leb, lt-leb, leb-true}
+use lib.Pointwise.{pointwise}
 use Rattle.fields.specs.Part.{part}
 use Rattle.fields.specs.Same.{same, stands_at}
-use Rattle.fields.proofs.Parts.{drop_more}
-use Rattle.fields.proofs.Tests.{never, and_both, and_no}
+use Rattle.fields.proofs.Tests.{never, and_both}
 
 -- lists that pass the test are equal
 pub same_true : (a b : List ℕ) → same a b ≡ true → a ≡ b
@@ -19,30 +19,13 @@ unfolding same
 same_self [] = refl
 same_self (x ∷ a) = rw (eq-eqb x x refl, same_self a)
 
--- ---- the steps of a comparison from left to right
-
--- lists of different lengths differ
-pub same_longer : (a b : List ℕ) → (length a ≡ length b → ⊥) → same a b ≡ false
+-- it is what `==` of slices answers
+pub same_pointwise : (a b : List ℕ) → same a b ≡ pointwise eqb a b
 unfolding same
-same_longer [] [] h = absurd (h refl)
-same_longer [] (y ∷ b) h = refl
-same_longer (x ∷ a) [] h = refl
-same_longer (x ∷ a) (y ∷ b) h = rw (same_longer a b (λ e. h (ap suc e))) (and_no (eqb x y))
-
-module _ (a b : List ℕ) (i : ℕ) where
-  -- the bytes at i are equal, or differ
-  pub same_next : i < length a → i < length b → get_or a i 0 ≡ get_or b i 0 → same (drop i a) (drop i b) ≡ same (drop (i + 1) a) (drop (i + 1) b)
-  unfolding same
-  same_next p q e = rw (drop_more a i p, drop_more b i q, eq-eqb _ _ e)
-
-  pub same_differ : i < length a → i < length b → (get_or a i 0 ≡ get_or b i 0 → ⊥) → same (drop i a) (drop i b) ≡ false
-  unfolding same
-  same_differ p q e = rw (drop_more a i p, drop_more b i q, ne_eqb _ _ e)
-
-  -- nothing is left
-  pub same_end : length a ≤ i → length b ≤ i → same (drop i a) (drop i b) ≡ true
-  unfolding same
-  same_end p q = rw (drop_of_length-le a p, drop_of_length-le b q)
+same_pointwise [] [] = refl
+same_pointwise [] (y ∷ b) = refl
+same_pointwise (x ∷ a) [] = refl
+same_pointwise (x ∷ a) (y ∷ b) = ap (λ t. eqb x y && t) (same_pointwise a b)
 
 -- ---- bytes that stand at a place
 

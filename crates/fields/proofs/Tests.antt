@@ -1,5 +1,5 @@
 -- Laws of tests: when two are one, and what a test that holds tells of its parts.
-use Rattle.fields.proofs.Base.{◌≡◌, refl, sym, Bool, true, false, cond, ◌&&◌, false≢true, ℕ, ◌≤◌, arith, dec_le, ℕ_discrete, leb, eqb, eq-eqb, ne_eqb, le-leb, lt-leb}
+use Rattle.fields.proofs.Base.{◌≡◌, refl, sym, Bool, true, false, cond, ◌&&◌, false≢true, ℕ, ℕ_discrete, eqb, eq-eqb, ne_eqb}
 
 -- a test that fails does not hold
 pub never {ℓ} : {A : Type ℓ} → false ≡ true → A
@@ -22,14 +22,6 @@ and_no false = refl
 pub cond_same {ℓ} : {A : Type ℓ} (t : Bool) (x : A) → cond t x x ≡ x
 cond_same true x = refl
 cond_same false x = refl
-
--- two tests of orders that hold together are one
-pub leb_same : (a b c d : ℕ) → (a ≤ b → c ≤ d) → (c ≤ d → a ≤ b) → leb a b ≡ leb c d
-leb_same a b c d f g =
-    elim (dec_le a b) [
-      | yes h ↦ rw (le-leb a b h, le-leb c d (f h))
-      | no h ↦ rw (lt-leb a b (omega arith), lt-leb c d (let k : c ≤ d → ⊥ = λ x. h (g x) in omega arith))
-    ]
 
 pub eqb_flip : (a b : ℕ) → eqb a b ≡ eqb b a
 eqb_flip a b =

@@ -25,15 +25,14 @@ fn number(s: &[u8], at: usize, k: usize) -> u64
     ensures below { result < 256 ^ k }
 {
     let mut v: u64 = 0;
-    let mut i = k;
-    while 0 < i {
-        i -= 1;
+    for i in (0..k).rev() {
         let b = byte(s, at, i) as u64;
         v = b + 256 * v;
     }
     v
 }
 
+// One function for each width and not a generic one: each has a type of its own, and this one a way of its own.
 pub fn le16(s: &[u8], at: usize) -> u16
     ensures { result ≡ le 2 s.now at }
 {
@@ -64,17 +63,7 @@ pub fn le64(s: &[u8], at: usize) -> u64
 pub fn equal(a: &[u8], b: &[u8]) -> bool
     ensures { result ≡ same a.now b.now }
 {
-    if a.len() != b.len() {
-        return false;
-    }
-    let mut i = 0;
-    while i < a.len() {
-        if a[i] != b[i] {
-            return false;
-        }
-        i += 1;
-    }
-    true
+    a == b
 }
 
 // Whether the bytes of c stand in s at `at`.

@@ -1,12 +1,12 @@
 -- The file header with section 0: one test for each of the refusals 1 to 5, in their order, and what a header that passes says.
 -- A test has its own part of the file: h is the file's first 96 bytes, z the 24 bytes of section 0. `size` is the file's length. Sums are
 -- exact (FORMAT N7).
-use Rattle.std.specs.Prelude.{ℕ, ◌+◌, List, [], ◌∷◌, Bool, cond, ◌&&◌, ◌||◌, leb, eqb}
+use Rattle.std.specs.Prelude.{ℕ, ◌+◌, List, [], ◌∷◌, Bool, cond, ◌&&◌, ◌||◌, leb, eqb, Result, Ok, Err, ⊤}
 use Rattle.fields.specs.Le.{le}
 use Rattle.fields.specs.Same.{stands_at}
 use Rattle.file_header.specs.declared.FileFields.{FileFields}
-use Rattle.file_header.specs.declared.CheckedFileHeader.{CheckedFileHeader}
-use Rattle.file_header.specs.declared.CheckedSectionZero.{CheckedSectionZero}
+use Rattle.refusals.specs.declared.Rule.TheVariants.{WrongLength, ShortFile, FileTags, WrongVersion, WrongSections}
+use Rattle.refusals.specs.declared.Rule.{Rule}
 
 -- ---- fields of the file header
 
@@ -118,17 +118,17 @@ file_fields_of h =
     }
 
 -- a test that has to hold, or else the refusal n
-abbrev pub requiring : Bool → ℕ → CheckedFileHeader → CheckedFileHeader
-requiring t n r = cond t r (CheckedFileHeader.Refused n)
+abbrev pub requiring : Bool → Rule → Result FileFields Rule → Result FileFields Rule
+requiring t n r = cond t r (Err n)
 
 -- FORMAT RO1, RO4
-unfoldable pub file_header_of : List ℕ → ℕ → CheckedFileHeader
+unfoldable pub file_header_of : List ℕ → ℕ → Result FileFields Rule
 file_header_of h size =
-    requiring (long_enough size) 1
-    (requiring (file_tagged h) 2
-    (requiring (version_right h) 3
-    (requiring (sections_right h size) 4
-    (CheckedFileHeader.Good (file_fields_of h)))))
+    requiring (long_enough size) ShortFile
+    (requiring (file_tagged h) FileTags
+    (requiring (version_right h) WrongVersion
+    (requiring (sections_right h size) WrongSections
+    (Ok (file_fields_of h)))))
 
 -- ---- refusal 5
 
@@ -136,5 +136,5 @@ file_header_of h size =
 abbrev pub length_right : List ℕ → ℕ → Bool
 length_right z size = eqb (le 8 z 0x08) size
 
-unfoldable pub section_zero_of : List ℕ → ℕ → CheckedSectionZero
-section_zero_of z size = cond (length_right z size) CheckedSectionZero.Good (CheckedSectionZero.Refused 5)
+unfoldable pub section_zero_of : List ℕ → ℕ → Result ⊤ Rule
+section_zero_of z size = cond (length_right z size) (Ok tt) (Err WrongLength)

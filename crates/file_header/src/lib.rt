@@ -4,6 +4,8 @@
 ghost use Rattle.std.specs.Prelude.{◌≡◌, ◌+◌, ◌^◌, ◌<◌, leb};
 ghost use Rattle.file_header.specs.FileHeader.{version_field, header_end, time_field, language_field, section_start, section_length, directory_start, directory_length, content_start, file_tagged, version_right, placed, apart, lengths_right, places_right, content_right, sections_right, file_fields_of, file_header_of, section_zero_of};
 
+use refusals::Rule;
+
 // What the file header says: version, time, language, where section 0 starts, start and length of the directory, where the content starts.
 #[derive(Clone, Copy)]
 pub struct FileFields {
@@ -14,20 +16,6 @@ pub struct FileFields {
     pub start: u64,
     pub length: u64,
     pub content: u64,
-}
-
-// A file header that keeps the rules, or the number of the refusal, 1 to 4.
-#[derive(Clone, Copy)]
-pub enum CheckedFileHeader {
-    Good(FileFields),
-    Refused(u8),
-}
-
-// A section 0 that keeps the rule, or the number of the refusal, 5.
-#[derive(Clone, Copy)]
-pub enum CheckedSectionZero {
-    Good,
-    Refused(u8),
 }
 
 fn version(h: &[u8]) -> u64
@@ -90,6 +78,7 @@ fn content_start(h: &[u8]) -> u64
 }
 
 // Refusal 2: the tag and both GUIDs.
+#[tactic(auto, unfolding(crate::specs::FileHeader::file_tagged))]
 fn file_tagged(h: &[u8]) -> bool
     ensures { result ≡ file_tagged h.now }
 {
@@ -111,6 +100,7 @@ fn file_tagged(h: &[u8]) -> bool
 }
 
 // Refusal 3: the version, and the header length that goes with it.
+#[tactic(auto, unfolding(crate::specs::FileHeader::version_right))]
 fn version_right(h: &[u8]) -> bool
     ensures { result ≡ version_right h.now }
 {
@@ -156,6 +146,7 @@ fn are_apart(a: u64, m: u64, b: u64, n: u64) -> bool
 }
 
 // The length of section 0, and room for the directory's header.
+#[tactic(auto, unfolding(crate::specs::FileHeader::lengths_right))]
 fn lengths_right(h: &[u8]) -> bool
     ensures { result ≡ lengths_right h.now }
 {
@@ -166,6 +157,7 @@ fn lengths_right(h: &[u8]) -> bool
 }
 
 // Section 0 and the directory: each between the header's end and the file's end, and apart.
+#[tactic(auto, unfolding(crate::specs::FileHeader::places_right))]
 fn places_right(h: &[u8], len: u64) -> bool
     ensures { result ≡ places_right h.now len }
 {
@@ -184,6 +176,7 @@ fn places_right(h: &[u8], len: u64) -> bool
 }
 
 // The content start, with a directory that ends inside the file.
+#[tactic(auto, unfolding(crate::specs::FileHeader::content_right))]
 fn content_right(h: &[u8], len: u64) -> bool
     requires { directory_start h.now + directory_length h.now < 2 ^ 64 }
     ensures { result ≡ content_right h.now len }
@@ -203,6 +196,7 @@ fn content_right(h: &[u8], len: u64) -> bool
 }
 
 // Refusal 4: lengths and places of section 0 and of the directory, and the content start.
+#[tactic(auto, unfolding(crate::specs::FileHeader::sections_right))]
 fn sections_right(h: &[u8], len: u64) -> bool
     ensures { result ≡ sections_right h.now len }
 {
@@ -232,30 +226,32 @@ fn fields_of(h: &[u8]) -> FileFields
 }
 
 // The checks 1 to 4 in their order, then what the header says.
-pub fn check(h: &[u8], len: u64) -> CheckedFileHeader
+#[tactic(auto, unfolding(crate::specs::FileHeader::file_header_of))]
+pub fn check(h: &[u8], len: u64) -> Result<FileFields, Rule>
     ensures { result ≡ file_header_of h.now len }
 {
     if len < 96 {
-        return CheckedFileHeader::Refused(1);
+        return Err(Rule::ShortFile);
     }
     if !file_tagged(h) {
-        return CheckedFileHeader::Refused(2);
+        return Err(Rule::FileTags);
     }
     if !version_right(h) {
-        return CheckedFileHeader::Refused(3);
+        return Err(Rule::WrongVersion);
     }
     if !sections_right(h, len) {
-        return CheckedFileHeader::Refused(4);
+        return Err(Rule::WrongSections);
     }
-    CheckedFileHeader::Good(fields_of(h))
+    Ok(fields_of(h))
 }
 
 // Check 5: the length that section 0 gives the file.
-pub fn check_section(z: &[u8], len: u64) -> CheckedSectionZero
+#[tactic(auto, unfolding(crate::specs::FileHeader::section_zero_of))]
+pub fn check_section(z: &[u8], len: u64) -> Result<(), Rule>
     ensures { result ≡ section_zero_of z.now len }
 {
     if fields::le64(z, 0x08) != len {
-        return CheckedSectionZero::Refused(5);
+        return Err(Rule::WrongLength);
     }
-    CheckedSectionZero::Good
+    Ok(())
 }

@@ -23,12 +23,9 @@ fn put_hex(bytes: &[u8], line: &mut [u8])
     requires { 2 * length bytes.now ≤ length line.old }
     ensures { line.new ≡ sets line.old 0 (hex_of bytes.now) }
 {
-    let mut i: usize = 0;
-    while i < bytes.len() {
-        let b = bytes[i];
-        line[2 * i] = digit(b / 16);
-        line[2 * i + 1] = digit(b % 16);
-        i += 1;
+    for (i, b) in bytes.iter().enumerate() {
+        line[2 * i] = digit(*b / 16);
+        line[2 * i + 1] = digit(*b % 16);
     }
 }
 
@@ -92,10 +89,10 @@ pub fn write_frame<W: Write>(out: &mut W, bytes: &[u8]) -> usize
 pub fn refusal_bytes(r: Refusal) -> [u8; 6]
     ensures { result ≡ refusal_bytes r }
 {
-    let c = r.chunk;
+    let c = r.chunk_number();
     [
         0xEE,
-        r.number,
+        r.number(),
         (c / 0x100_0000) as u8,
         (c / 0x1_0000 % 256) as u8,
         (c / 256 % 256) as u8,

@@ -4,7 +4,7 @@
 --     group_right    that group is the first or does not begin above the name, and is the last or has one behind it that does
 use Rattle.fields.proofs.Base.{◌≡◌, refl, sym, ap, subst, ◌∙◌, inl, List, ℕ, suc, ◌+◌, ◌-◌, ◌*◌, ◌≤◌, ◌<◌, arith, le-div_iff_mul-le, div-add-mod', length, get_or, drop, get_or-drop}
 use native.Mathlib.Nat.{mod-lt}
-use Rattle.names.specs.Order.{is_less}
+use Rattle.std.specs.Ordering.{is_lt}
 use Rattle.entries.specs.Entry.{name_of, Entry}
 use Rattle.entries.specs.declared.Limits.{Limits}
 use Rattle.entries.proofs.Laws.{item_inside}
@@ -35,7 +35,7 @@ module _ (limits : Limits) (k : Kind) (s : List ℕ) (es : List Entry) (good : A
       let y : g * n + 0 ≡ g * n = omega arith in
       let f : name_in (nth (g * n) es) ≡ name_of s r.0 =
       nth_name (g * n) es ∙ ap (λ (j : ℕ). (get_or es j other).name) (sym y) ∙ ap (λ (d : Entry). d.name) (sym (get_or-drop (g * n) es 0 other)) ∙ ap (λ (d : List Entry). (get_or d 0 other).name) r.3 in
-      rw i.read (ap (λ (x : List ℕ). is_less (stand x)) (sym f))
+      rw i.read (ap (λ (x : List ℕ). is_lt (stand x)) (sym f))
 
   abbrev last : ℕ
   last = quick_count n (entry_count s)

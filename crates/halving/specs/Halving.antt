@@ -1,8 +1,8 @@
 -- The group of a chunk to go through for a name, by halving over the quick words.
 use Rattle.std.specs.Prelude.{ℕ, zero, suc, ◌+◌, ◌-◌, ◌*◌, ◌/◌, min, List, Bool, true, cond, ltb}
 use Rattle.fields.specs.Part.{part}
-use Rattle.names.specs.Order.{is_less}
-use Rattle.names.specs.declared.Order.{Order}
+use Rattle.std.specs.Ordering.{is_lt}
+use Rattle.std.specs.declared.cmp.Ordering.{Ordering}
 use Rattle.entries.specs.Entry.{with_number, name_at}
 use Rattle.entries.specs.declared.Limits.{Limits}
 use Rattle.entries.specs.declared.Kind.{Kind}
@@ -12,7 +12,7 @@ use Rattle.quickref.specs.Quickref.{group_at}
 -- ---- how the asked name stands to another; a search goes by this alone, so that another comparison can be put in
 
 abbrev pub Stand : Type 0
-Stand = List ℕ → Order
+Stand = List ℕ → Ordering
 
 -- ---- halving: groups lo to hi are left (Q9)
 
@@ -31,7 +31,7 @@ halved above (suc i) lo hi =
 
 -- the first name of group g is above the asked one, or is none
 unfoldable pub group_above : Kind → List ℕ → Stand → ℕ → Bool
-group_above k s stand g = with_number (name_at s (group_at k s g)) true (λ len start. is_less (stand (part s start len)))
+group_above k s stand g = with_number (name_at s (group_at k s g)) true (λ len start. is_lt (stand (part s start len)))
 
 -- the last group of a chunk
 abbrev pub last_group : Limits → List ℕ → ℕ

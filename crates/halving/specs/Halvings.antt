@@ -1,7 +1,7 @@
 -- How many comparisons of the asked name halving makes; and halving over the list of a chunk's entries, which is what is meant.
 -- `same_group` and `same_halvings` of proofs/Same.antt say that on a chunk that passes its check halving over its bytes is the same.
 use Rattle.std.specs.Prelude.{List, Bool, cond, ℕ, zero, suc, ◌-◌, ◌*◌, ltb, length}
-use Rattle.names.specs.Order.{is_less}
+use Rattle.std.specs.Ordering.{is_lt}
 use Rattle.entries.specs.declared.Limits.{Limits}
 use Rattle.entries.specs.declared.Kind.{Kind}
 use Rattle.entries.specs.Entry.{Entry}
@@ -19,7 +19,7 @@ halvings above (suc i) lo hi =
 
 -- the first name of group g is above the asked one
 abbrev pub above_in : ℕ → Stand → List Entry → ℕ → Bool
-above_in n stand es g = is_less (stand (name_in (nth (g * n) es)))
+above_in n stand es g = is_lt (stand (name_in (nth (g * n) es)))
 
 -- the group that is left of all
 abbrev pub group_of : ℕ → Stand → List Entry → ℕ

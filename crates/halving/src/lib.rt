@@ -1,17 +1,16 @@
 // The group of a chunk to go through for a name, by halving over its quick words. On any bytes it answers; where a first name is none, halving goes on before it.
 #![tactic(auto)]
 
-ghost use Rattle.std.specs.Prelude.{◌≡◌, ◌≤◌, ◌<◌, min, length};
-ghost use Rattle.names.specs.Order.{is_less};
+ghost use Rattle.std.specs.Prelude.{◌≡◌, ◌≤◌, ◌<◌, length};
+ghost use Rattle.std.specs.Ordering.{is_lt};
 ghost use Rattle.names.specs.Names.{compared};
 ghost use Rattle.chunk_fields.specs.ChunkFields.{count_place};
 ghost use Rattle.quickref.specs.Quickref.{group_at};
 ghost use Rattle.halving.specs.Halving.{group_above, halved, group_in, size_in};
 ghost use Rattle.halving.specs.Halvings.{halvings, halvings_in};
 
-use encint::Number;
 use entries::{Kind, Limits};
-use names::Order;
+use std::cmp::Ordering;
 
 // The group that halving leaves, and how many comparisons it made.
 #[derive(Clone, Copy)]
@@ -44,12 +43,12 @@ fn group_place(c: &[u8], kind: Kind, g: usize) -> usize
 }
 
 // How a name stands to the first name of group g: `Less` where that is above the name, or there is none.
-fn stands_to(c: &[u8], kind: Kind, name: &[u8], g: usize) -> Order
+fn stands_to(c: &[u8], kind: Kind, name: &[u8], g: usize) -> Ordering
     requires { count_place < length c.now }
-    ensures { is_less result ≡ group_above kind c.now (compared name.now) g }
+    ensures { is_lt result ≡ group_above kind c.now (compared name.now) g }
 {
-    let Number::Value(n, start) = entries::name_at(c, group_place(c, kind, g)) else {
-        return Order::Less;
+    let Some((n, start)) = entries::name_at(c, group_place(c, kind, g)) else {
+        return Ordering::Less;
     };
     let len = n as usize;
     names::compare(name, &c[start..start + len])
@@ -68,25 +67,15 @@ fn group_of(c: &[u8], kind: Kind, name: &[u8], last: usize) -> Halved
         let middle = lo + (hi - lo + 1) / 2;
         turns += 1;
         match stands_to(c, kind, name, middle) {
-            Order::Less => hi = middle - 1,
-            Order::Equal => lo = middle,
-            Order::Greater => lo = middle,
+            Ordering::Less => hi = middle - 1,
+            Ordering::Equal => lo = middle,
+            Ordering::Greater => lo = middle,
         }
     }
     Halved {
         group: lo,
         count: turns,
     }
-}
-
-// The smaller of two numbers.
-fn smaller(a: usize, b: usize) -> usize
-    ensures { result ≡ min a b }
-{
-    if a < b {
-        return a;
-    }
-    b
 }
 
 // The group of a chunk to go through for a name.
@@ -105,7 +94,7 @@ pub fn group_for(c: &[u8], limits: Limits, kind: Kind, name: &[u8]) -> Group
     let left = group_of(c, kind, name, (total - 1) / n);
     Group {
         at: group_place(c, kind, left.group),
-        size: smaller(n, total - left.group * n),
+        size: n.min(total - left.group * n),
         count: left.count,
     }
 }

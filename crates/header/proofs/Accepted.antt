@@ -1,5 +1,5 @@
 -- What good headers tell of their record: `header_accepted`.
-use Rattle.fields.proofs.Base.{◌≡◌, sym, ap, ap₂, subst, ◌∙◌, List, true, ℕ, ◌+◌, ◌*◌, ◌≤◌, ◌<◌, arith, length}
+use Rattle.fields.proofs.Base.{◌≡◌, sym, ap, ap₂, subst, ◌∙◌, List, true, ℕ, ◌+◌, ◌*◌, ◌≤◌, ◌<◌, arith, length, Ok}
 use Rattle.file_header.specs.FileHeader.{directory_length, file_fields_of}
 use Rattle.file_header.specs.declared.FileFields.{FileFields}
 use Rattle.file_header.proofs.Rules.{sections_told}
@@ -9,7 +9,6 @@ use Rattle.directory_header.proofs.Rules.{directory_told}
 use Rattle.directory_header.proofs.Checks.{directory_rules}
 use Rattle.header.specs.Header.{record_from, header_in, directory_in, header_of}
 use Rattle.header.specs.declared.Record.{Record}
-use Rattle.header.specs.declared.CheckedHeader.TheVariants.{Good}
 use Rattle.header.proofs.Checks.{header_both}
 
 -- bounds of a record; `directory` says that all chunks lie inside the file
@@ -48,7 +47,7 @@ rules_accepted s h d rules right =
       content = p.content;
     }
 
-pub header_accepted : (s : List ℕ) (r : Record) → header_of s ≡ Good r → Accepted s r
+pub header_accepted : (s : List ℕ) (r : Record) → header_of s ≡ Ok r → Accepted s r
 header_accepted s r e =
     let t = header_both s r e in
     let h = header_in s in

@@ -4,8 +4,9 @@
 ghost use Rattle.std.specs.Prelude.{◌≡◌};
 ghost use Rattle.header.specs.Header.{record_from, directory_then, section_then, header_of};
 
-use directory_header::{CheckedDirectoryHeader, DirectoryFields};
-use file_header::{CheckedFileHeader, CheckedSectionZero, FileFields};
+use directory_header::DirectoryFields;
+use file_header::FileFields;
+use refusals::Rule;
 
 // What opening hands out: version, time, language, the directory's place, the chunk count, density, depth, root, the first and the last
 // listing chunk, and where the content starts.
@@ -22,13 +23,6 @@ pub struct Record {
     pub first: u64,
     pub last: u64,
     pub content: u64,
-}
-
-// Headers that keep the rules, or the number of the refusal, 1 to 7.
-#[derive(Clone, Copy)]
-pub enum CheckedHeader {
-    Good(Record),
-    Refused(u8),
 }
 
 fn record_from(f: FileFields, d: DirectoryFields) -> Record
@@ -50,34 +44,31 @@ fn record_from(f: FileFields, d: DirectoryFields) -> Record
 }
 
 // The checks 6 and 7, behind a file header that says f.
-fn read_directory(file: &[u8], f: FileFields) -> CheckedHeader
+#[tactic(auto, unfolding(crate::specs::Header::directory_then))]
+fn read_directory(file: &[u8], f: FileFields) -> Result<Record, Rule>
     ensures { result ≡ directory_then file.now f }
 {
     let d = fields::part(file, f.start as usize, 84);
-    match directory_header::check(d, f.length) {
-        CheckedDirectoryHeader::Good(numbers) => CheckedHeader::Good(record_from(f, numbers)),
-        CheckedDirectoryHeader::Refused(number) => CheckedHeader::Refused(number),
-    }
+    let numbers = directory_header::check(d, f.length)?;
+    Ok(record_from(f, numbers))
 }
 
 // The checks from 5 on.
-fn read_section(file: &[u8], f: FileFields) -> CheckedHeader
+#[tactic(auto, unfolding(crate::specs::Header::section_then))]
+fn read_section(file: &[u8], f: FileFields) -> Result<Record, Rule>
     ensures { result ≡ section_then file.now f }
 {
     let z = fields::part(file, f.section as usize, 24);
-    match file_header::check_section(z, file.len() as u64) {
-        CheckedSectionZero::Good => read_directory(file, f),
-        CheckedSectionZero::Refused(number) => CheckedHeader::Refused(number),
-    }
+    file_header::check_section(z, file.len() as u64)?;
+    read_directory(file, f)
 }
 
 // The checks 1 to 7 in their order, then the record.
-pub fn read(file: &[u8]) -> CheckedHeader
+#[tactic(auto, unfolding(crate::specs::Header::header_of))]
+pub fn read(file: &[u8]) -> Result<Record, Rule>
     ensures { result ≡ header_of file.now }
 {
     let h = fields::part(file, 0, 96);
-    match file_header::check(h, file.len() as u64) {
-        CheckedFileHeader::Good(f) => read_section(file, f),
-        CheckedFileHeader::Refused(number) => CheckedHeader::Refused(number),
-    }
+    let f = file_header::check(h, file.len() as u64)?;
+    read_section(file, f)
 }

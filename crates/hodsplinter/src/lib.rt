@@ -4,7 +4,6 @@
 ghost use Rattle.std.specs.Prelude.{◌≡◌, ◌↔◌, ℕ, ◌≤◌, length};
 ghost use Rattle.names.specs.Names.{compared, order_code};
 ghost use Rattle.opening.specs.Opened.{opened};
-ghost use Rattle.opening.specs.declared.Opened.TheVariants.{Book};
 ghost use Rattle.lookup.specs.Lookup.{looked_up, trail_after};
 ghost use Rattle.listing.specs.Listing.{start_of, stepped, owned_at};
 ghost use Rattle.page.specs.Page.{page_of, page_in};
@@ -57,7 +56,7 @@ pub fn hods_lookup(
 pub fn hods_scan(file: &[u8], record: &Numbers, name: &[u8], answer: &mut [u64; 5]) -> u64
     ensures answer { result ≡ reply_code (scanned file.now (record_in «record».now) name.now) }
     ensures numbers { answer.new ≡ reply_numbers (scanned file.now (record_in «record».now) name.now) answer.old }
-    ensures agrees { opened file.now ≡ Book (record_in «record».now) → (places : ℕ) → 5 ≤ places → result ≡ lookup_code (looked_up file.now (record_in «record».now) name.now places) }
+    ensures agrees { opened file.now ≡ Ok (record_in «record».now) → (places : ℕ) → 5 ≤ places → result ≡ lookup_code (looked_up file.now (record_in «record».now) name.now places) }
 {
     let found = scan::scan(file, numbers::record_in(record), name);
     numbers::tell_reply(found, answer)
@@ -68,7 +67,7 @@ pub fn hods_scan(file: &[u8], record: &Numbers, name: &[u8], answer: &mut [u64; 
 pub fn hods_lookup_opened(file: &[u8], record: &Numbers, name: &[u8], answer: &mut [u64; 5]) -> u64
     ensures answer { result ≡ reply_code (fetched file.now (record_in «record».now) name.now) }
     ensures numbers { answer.new ≡ reply_numbers (fetched file.now (record_in «record».now) name.now) answer.old }
-    ensures agrees { opened file.now ≡ Book (record_in «record».now) → (places : ℕ) → 5 ≤ places → result ≡ lookup_code (looked_up file.now (record_in «record».now) name.now places) }
+    ensures agrees { opened file.now ≡ Ok (record_in «record».now) → (places : ℕ) → 5 ≤ places → result ≡ lookup_code (looked_up file.now (record_in «record».now) name.now places) }
 {
     let found = fetch::fetch(file, numbers::record_in(record), name);
     numbers::tell_reply(found, answer)

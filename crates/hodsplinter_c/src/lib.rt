@@ -1,10 +1,10 @@
-// The exports of the library for C, include/hodsplinter.h: each calls the function of its name in the library, and states its clauses again.
+// The exports of the library for C, include/hodsplinter.h: each calls the function of its name in the library, and states its clauses again, since C calls no
+// generic function.
 #![tactic(auto)]
 
 ghost use Rattle.std.specs.Prelude.{◌≡◌, ◌↔◌, ℕ, ◌≤◌, length};
 ghost use Rattle.names.specs.Names.{compared, order_code};
 ghost use Rattle.opening.specs.Opened.{opened};
-ghost use Rattle.opening.specs.declared.Opened.TheVariants.{Book};
 ghost use Rattle.lookup.specs.Lookup.{looked_up, trail_after};
 ghost use Rattle.listing.specs.Listing.{start_of, stepped, owned_at};
 ghost use Rattle.page.specs.Page.{page_of, page_in};
@@ -64,7 +64,7 @@ pub extern "C" fn hods_scan(
 ) -> u64
     ensures answer { result ≡ reply_code (scanned file.now (record_in «record».now) name.now) }
     ensures numbers { answer.new ≡ reply_numbers (scanned file.now (record_in «record».now) name.now) answer.old }
-    ensures agrees { opened file.now ≡ Book (record_in «record».now) → (places : ℕ) → 5 ≤ places → result ≡ lookup_code (looked_up file.now (record_in «record».now) name.now places) }
+    ensures agrees { opened file.now ≡ Ok (record_in «record».now) → (places : ℕ) → 5 ≤ places → result ≡ lookup_code (looked_up file.now (record_in «record».now) name.now places) }
 {
     hodsplinter::hods_scan(file, record, name, answer)
 }
@@ -80,7 +80,7 @@ pub extern "C" fn hods_lookup_opened(
 ) -> u64
     ensures answer { result ≡ reply_code (fetched file.now (record_in «record».now) name.now) }
     ensures numbers { answer.new ≡ reply_numbers (fetched file.now (record_in «record».now) name.now) answer.old }
-    ensures agrees { opened file.now ≡ Book (record_in «record».now) → (places : ℕ) → 5 ≤ places → result ≡ lookup_code (looked_up file.now (record_in «record».now) name.now places) }
+    ensures agrees { opened file.now ≡ Ok (record_in «record».now) → (places : ℕ) → 5 ≤ places → result ≡ lookup_code (looked_up file.now (record_in «record».now) name.now places) }
 {
     hodsplinter::hods_lookup_opened(file, record, name, answer)
 }

@@ -3,23 +3,23 @@
 #![tactic(auto)]
 
 use header::Record;
-use opening::Opened;
+use refusals::Rule;
 use std::io;
 use std::io::Write;
-use walk::{Coming, Walk};
+use walk::Walk;
 
 // A frame for each entry, its own bytes as stored.
 fn write_entries<W: Write>(out: &mut W, file: &[u8], book: Record) {
     let mut at = Walk::start(book);
     loop {
         match at.peek(file, book) {
-            Coming::Entry(e, w) => {
+            Ok(Some((e, w))) => {
                 let own = report::own_of(file, book, w.chunk, e);
                 frames::write_frame(out, content::part(file, own.place, own.length));
                 at = w.after(e);
             }
-            Coming::End => return,
-            Coming::Refused(r) => {
+            Ok(None) => return,
+            Err(r) => {
                 frames::write_refusal(out, r);
                 return;
             }
@@ -29,8 +29,8 @@ fn write_entries<W: Write>(out: &mut W, file: &[u8], book: Record) {
 
 fn write_listing<W: Write>(out: &mut W, file: &[u8]) {
     match opening::open(file) {
-        Opened::Book(book) => write_entries(out, file, book),
-        Opened::Refused(r) => {
+        Ok(book) => write_entries(out, file, book),
+        Err(r) => {
             frames::write_refusal(out, r);
         }
     }
@@ -41,7 +41,7 @@ fn main(rt: HostRuntime) -> io::Result<()> {
     let mut buf = [0u8; 60001];
     let got = input::fill(&mut rt.stdin(), &mut buf)?;
     if 60000 < got {
-        frames::write_refusal(&mut out, refusals::refuse(29));
+        frames::write_refusal(&mut out, refusals::refuse(Rule::LongInput));
         return Ok(());
     }
     write_listing(&mut out, &buf[..got]);

@@ -1,5 +1,5 @@
 -- Listing is exact: the steps through a book that opens report every entry of every chunk of its chain, in order, each once, and then the end.
-use Rattle.fields.proofs.Base.{◌≡◌, refl, ap, true, List, flat_map, append-nil, ℕ, zero, suc, eqb-true}
+use Rattle.fields.proofs.Base.{◌≡◌, refl, ap, true, List, flat_map, append-nil, ℕ, zero, suc, eqb-true, Ok}
 use Rattle.fields.proofs.Tests.{never}
 use Rattle.refusals.specs.Refusals.{no_chunk}
 use Rattle.header.specs.declared.Record.{Record}
@@ -8,7 +8,6 @@ use Rattle.tree.specs.Chain.{chain_from, chain, linked}
 use Rattle.tree.proofs.Linked.{on_link, linked_chunk, chain_linked, good_filled, listed}
 use Rattle.book.specs.Book.{directory_of, shape_of, record_fits}
 use Rattle.opening.specs.Opened.{opened}
-use Rattle.opening.specs.declared.Opened.TheVariants.{Book}
 use Rattle.listing.specs.Listing.{cursor_at, start_of, stepped, reports_in}
 use Rattle.listing.specs.Whole.{whole_listing, last_cursor, ListingExact}
 use Rattle.listing.specs.declared.Cursor.{Cursor}
@@ -30,7 +29,7 @@ module _ (s : List ℕ) (book : Record) (fits : record_fits s book ≡ true) whe
       (λ e. rw (e, append-nil, ← eqb-true x no_chunk e) r)
       (λ e b l. rw e (run_append s book (cursor_at c 0) (cursor_at x 0) (cursor_at no_chunk 0) (reports_in s book c) _ r (run_chain n c x l)))
 
-pub listing_exact : (s : List ℕ) (book : Record) → opened s ≡ Book book → ListingExact s book
+pub listing_exact : (s : List ℕ) (book : Record) → opened s ≡ Ok book → ListingExact s book
 unfolding whole_listing chain last_cursor
 listing_exact s book e =
     let k = opened_book s book e in
@@ -38,7 +37,7 @@ listing_exact s book e =
     let rs = whole_listing s book in
     let to = cursor_at no_chunk 0 in
     let r : Run s book (start_of book) rs to = run_chain s book fits book.count no_chunk book.first (chain_linked (directory_of s book) (shape_of book) k.directory.chain_passes) in
-    let at_end : stepped s book to ≡ End to = step_end s book to fits refl in
+    let at_end : stepped s book to ≡ Ok (End to) = step_end s book to fits refl in
     let m = run_steps s book (start_of book) to rs r in
     record {
       reports = m.0;

@@ -1,5 +1,5 @@
 -- The own bytes of the entry at a cursor, by the cases of the answer.
-use Rattle.fields.proofs.Base.{◌≡◌, refl, sym, ap, subst, ◌∙◌, Bool, true, false, List, ℕ, ◌<◌, get_or, eqb, eqb-true, eqb-false}
+use Rattle.fields.proofs.Base.{◌≡◌, refl, sym, ap, subst, ◌∙◌, Bool, true, false, List, ℕ, ◌<◌, get_or, eqb, eqb-true, eqb-false, Option, Some, None, Result, Ok}
 use Rattle.fields.proofs.Tests.{and_no}
 use Rattle.refusals.specs.Refusals.{no_chunk}
 use Rattle.entries.specs.declared.Place.{Place}
@@ -7,8 +7,6 @@ use Rattle.entries.specs.declared.Kind.TheVariants.{Listing}
 use Rattle.quickref.specs.Quickref.{nth_in}
 use Rattle.chunk.specs.Chunk.{Parsed}
 use Rattle.entries.specs.Entry.{entry_of}
-use Rattle.quickref.specs.declared.Hit.{Hit}
-use Rattle.quickref.specs.declared.Hit.TheVariants.{At as HitAt, Nothing as HitNothing}
 use Rattle.header.specs.declared.Record.{Record}
 use Rattle.tree.specs.Shape.{is_listing, listing_chunk}
 use Rattle.tree.proofs.Chunks.{listing_chunk_lem}
@@ -19,31 +17,31 @@ use Rattle.listing.specs.Listing.{moved_on, step_of, entry_step, stepped, can_li
 use Rattle.listing.specs.declared.Cursor.{Cursor}
 use Rattle.listing.specs.declared.Step.{Step}
 use Rattle.listing.specs.declared.Step.TheVariants.{Entry as Reported}
-use Rattle.listing.specs.declared.Owned.{Owned}
-use Rattle.listing.specs.declared.Owned.TheVariants.{At, Nothing}
 use Rattle.quickref.proofs.Steps.{nth_read}
 use Rattle.listing.proofs.Stepping.{entry_absent, step_unfit, step_end, step_other, step_entry, some_chunk}
+use Rattle.refusals.specs.declared.Refusal.{Refusal}
+use Rattle.report.specs.declared.Own.{Own}
 
 module _ (s : List ℕ) (book : Record) (at : Cursor) where
-  pub own_unfit : record_fits s book ≡ false → owned_at s book at ≡ Nothing
+  pub own_unfit : record_fits s book ≡ false → owned_at s book at ≡ None
   unfolding owned_at can_list
   own_unfit f = rw f
 
-  pub own_other : listing_chunk (directory_of s book) (shape_of book) at.chunk ≡ false → owned_at s book at ≡ Nothing
+  pub own_other : listing_chunk (directory_of s book) (shape_of book) at.chunk ≡ false → owned_at s book at ≡ None
   unfolding owned_at can_list
   own_other l = rw (l, and_no)
 
   module _ (f : record_fits s book ≡ true) (l : listing_chunk (directory_of s book) (shape_of book) at.chunk ≡ true) (is : is_listing (directory_of s book at.chunk) ≡ true) where
-    pub own_missing : nth_in (limits_of s book) Listing (chunk_bytes s book at.chunk) at.entry ≡ HitNothing → owned_at s book at ≡ Nothing
+    pub own_missing : nth_in (limits_of s book) Listing (chunk_bytes s book at.chunk) at.entry ≡ None → owned_at s book at ≡ None
     unfolding owned_at can_list
     own_missing h = rw (f, l) (ap (owned_of book at.chunk) (nth_nothing s book at.chunk is at.entry h))
 
-    pub own_there : (e : Place) → nth_in (limits_of s book) Listing (chunk_bytes s book at.chunk) at.entry ≡ HitAt e → owned_at s book at ≡ At (own_at s book at.chunk e)
+    pub own_there : (e : Place) → nth_in (limits_of s book) Listing (chunk_bytes s book at.chunk) at.entry ≡ Some e → owned_at s book at ≡ Some (own_at s book at.chunk e)
     unfolding owned_at can_list
     own_there e h =
         let r = nth_read (limits_of s book) Listing (chunk_bytes s book at.chunk) at.entry e h in
         rw (f, l) (ap (owned_of book at.chunk) (nth_hit s book at.chunk is at.entry e h).1
-        ∙ ap At (sym (read_owned s book at.chunk is r.1 e r.2)))
+        ∙ ap Some (sym (read_owned s book at.chunk is r.1 e r.2)))
 
 -- ---- beside a step
 
@@ -55,7 +53,7 @@ module _ (s : List ℕ) (bytes : (i : ℕ) → get_or s i 0 < 256) (book : Recor
   Beside = OwnBeside s (stepped s book at) (owned_at s book at)
 
   -- a step that gives no entry
-  none_beside : (t : Step) → stepped s book at ≡ t → OwnBeside s t Nothing → owned_at s book at ≡ Nothing → Beside
+  none_beside : (t : Result Step Refusal) → stepped s book at ≡ t → OwnBeside s t None → owned_at s book at ≡ None → Beside
   none_beside t e n o = rw (e, o) n
 
   module _ (f : record_fits s book ≡ true) (l : listing_chunk (directory_of s book) (shape_of book) at.chunk ≡ true) where
@@ -65,16 +63,16 @@ module _ (s : List ℕ) (bytes : (i : ℕ) → get_or s i 0 < 256) (book : Recor
     step_is : stepped s book at ≡ entry_step book p at
     step_is = step_entry s book at f (some_chunk s book at.chunk f l) l
 
-    entry_beside : (h : Hit) → nth_in (limits_of s book) Listing (chunk_bytes s book at.chunk) at.entry ≡ h → Beside
+    entry_beside : (h : Option Place) → nth_in (limits_of s book) Listing (chunk_bytes s book at.chunk) at.entry ≡ h → Beside
     unfolding entry_step
-    entry_beside HitNothing h =
+    entry_beside None h =
         none_beside _ (step_is ∙ entry_absent book p at (nth_nothing s book at.chunk is at.entry h)) tt (own_missing s book at f l is h)
-    entry_beside (HitAt e) h =
+    entry_beside (Some e) h =
         let n = nth_hit s book at.chunk is at.entry e h in
         let r = nth_read (limits_of s book) Listing (chunk_bytes s book at.chunk) at.entry e h in
         let x = entry_of (chunk_bytes s book at.chunk) e in
-        let t : stepped s book at ≡ Reported (report_of book at.chunk x) (moved_on p at.chunk at.entry) = step_is ∙ ap (step_of book p at.chunk at.entry) n.1 in
-        let o : owned_at s book at ≡ At (own_of book at.chunk x) = own_there s book at f l is e h ∙ ap At (read_owned s book at.chunk is r.1 e r.2) in
+        let t : stepped s book at ≡ Ok (Reported (report_of book at.chunk x) (moved_on p at.chunk at.entry)) = step_is ∙ ap (step_of book p at.chunk at.entry) n.1 in
+        let o : owned_at s book at ≡ Some (own_of book at.chunk x) = own_there s book at f l is e h ∙ ap Some (read_owned s book at.chunk is r.1 e r.2) in
         rw (t, o) (own_padded s book at.chunk is bytes r.1 e r.2)
 
   pub own_beside : Beside
@@ -93,5 +91,5 @@ module _ (s : List ℕ) (bytes : (i : ℕ) → get_or s i 0 < 256) (book : Recor
       fits false f = none_beside _ (step_unfit s book at f) tt (own_unfit s book at f)
 
   -- an answer that is the own bytes
-  pub owned_answer : (r : Owned) → r ≡ owned_at s book at → record { bytes : r ≡ owned_at s book at; beside : OwnBeside s (stepped s book at) r }
+  pub owned_answer : (r : Option Own) → r ≡ owned_at s book at → record { bytes : r ≡ owned_at s book at; beside : OwnBeside s (stepped s book at) r }
   owned_answer r e = record { bytes = e; beside = subst (OwnBeside s (stepped s book at)) (sym e) own_beside }

@@ -1,5 +1,5 @@
 -- A run of steps: each reports an entry. The steps from entry 0 of a listing chunk run through its entries, and come to its next chunk.
-use Rattle.fields.proofs.Base.{◌≡◌, refl, sym, ap, ◌∙◌, true, List, [], ◌∷◌, ◌++◌, map, ℕ, zero, suc, ◌+◌, ◌-◌, ◌<◌, arith, length, take, drop, length-drop, drop-drop}
+use Rattle.fields.proofs.Base.{◌≡◌, refl, sym, ap, ◌∙◌, true, List, [], ◌∷◌, ◌++◌, map, ℕ, zero, suc, ◌+◌, ◌-◌, ◌<◌, arith, length, take, drop, length-drop, drop-drop, Ok}
 use Rattle.entries.specs.Entry.{Entry}
 use Rattle.chunk.specs.Chunk.{entries_in}
 use Rattle.quickref.specs.Quickref.{found, nth}
@@ -22,9 +22,9 @@ module _ (s : List ℕ) (book : Record) where
   -- the steps from `at` report rs, one a step, and come to `to`
   abbrev pub Run : Cursor → List Report → Cursor → Type 0
   Run at [] to = at ≡ to
-  Run at (r ∷ rs) to = (next : Cursor) × (stepped s book at ≡ Reported r next) × Run next rs to
+  Run at (r ∷ rs) to = (next : Cursor) × (stepped s book at ≡ Ok (Reported r next)) × Run next rs to
 
-  after_step : (at next : Cursor) (r : Report) (n : ℕ) → stepped s book at ≡ Reported r next → cursor_after s book (suc n) at ≡ cursor_after s book n next
+  after_step : (at next : Cursor) (r : Report) (n : ℕ) → stepped s book at ≡ Ok (Reported r next) → cursor_after s book (suc n) at ≡ cursor_after s book n next
   unfolding cursor_after
   after_step at next r n e = ap (λ x. cursor_after s book n (cursor_in at x)) e
 
@@ -41,7 +41,7 @@ module _ (s : List ℕ) (book : Record) where
 
   -- ---- the end
 
-  module _ (to : Cursor) (at_end : stepped s book to ≡ End to) where
+  module _ (to : Cursor) (at_end : stepped s book to ≡ Ok (End to)) where
     pub end_steps : (n : ℕ) → (steps_from s book n to ≡ []) × (cursor_after s book n to ≡ to)
     unfolding steps_from cursor_after
     end_steps zero = (refl, refl)
@@ -71,13 +71,13 @@ module _ (s : List ℕ) (book : Record) (c : ℕ) (fits : record_fits s book ≡
   next = cursor_at (next_of (directory_of s book c)) 0
 
   -- the step at an entry: the one behind it, or the next chunk
-  step_inside : (i : ℕ) (x y : Entry) (ys : List Entry) → drop i es ≡ x ∷ y ∷ ys → stepped s book (cursor_at c i) ≡ Reported (report_of book c x) (cursor_at c (i + 1))
+  step_inside : (i : ℕ) (x y : Entry) (ys : List Entry) → drop i es ≡ x ∷ y ∷ ys → stepped s book (cursor_at c i) ≡ Ok (Reported (report_of book c x) (cursor_at c (i + 1)))
   step_inside i x y ys e =
       let l : length es - i ≡ suc (suc (length ys)) = sym (length-drop i es) ∙ ap length e in
       step_entry s book (cursor_at c i) fits (some_chunk s book c fits here) here
       ∙ entry_inside book (directory_of s book c) (cursor_at c i) x (nth_first i es x (y ∷ ys) e) (omega arith)
 
-  step_last : (i : ℕ) (x : Entry) → drop i es ≡ x ∷ [] → stepped s book (cursor_at c i) ≡ Reported (report_of book c x) next
+  step_last : (i : ℕ) (x : Entry) → drop i es ≡ x ∷ [] → stepped s book (cursor_at c i) ≡ Ok (Reported (report_of book c x) next)
   step_last i x e =
       let l : length es - i ≡ 1 = sym (length-drop i es) ∙ ap length e in
       step_entry s book (cursor_at c i) fits (some_chunk s book c fits here) here
@@ -97,10 +97,10 @@ module _ (s : List ℕ) (book : Record) (c : ℕ) (fits : record_fits s book ≡
       go (x ∷ xs) e = run_from 0 x xs e
 
   -- the cursor after some steps in the chunk
-  step_on : (i : ℕ) → i + 1 < length es → (r : Report) × (stepped s book (cursor_at c i) ≡ Reported r (cursor_at c (i + 1)))
+  step_on : (i : ℕ) → i + 1 < length es → (r : Report) × (stepped s book (cursor_at c i) ≡ Ok (Reported r (cursor_at c (i + 1))))
   step_on i l = go (drop i es) refl
     where
-      go : (xs : List Entry) → drop i es ≡ xs → (r : Report) × (stepped s book (cursor_at c i) ≡ Reported r (cursor_at c (i + 1)))
+      go : (xs : List Entry) → drop i es ≡ xs → (r : Report) × (stepped s book (cursor_at c i) ≡ Ok (Reported r (cursor_at c (i + 1))))
       go [] e = absurd (let n : length es - i ≡ 0 = sym (length-drop i es) ∙ ap length e in omega arith)
       go (x ∷ []) e = absurd (let n : length es - i ≡ 1 = sym (length-drop i es) ∙ ap length e in omega arith)
       go (x ∷ (y ∷ ys)) e = (report_of book c x, step_inside i x y ys e)

@@ -1,5 +1,5 @@
 -- Several steps: what they report, and where they come to. The listing of a whole book, and what steps promise of it.
-use Rattle.std.specs.Prelude.{ℕ, zero, suc, ◌≡◌, length, take}
+use Rattle.std.specs.Prelude.{ℕ, zero, suc, ◌≡◌, length, take, Result, Ok, Err}
 use mathlib.Core.List.{List, [], ◌∷◌, ◌++◌, flat_map}
 use Rattle.refusals.specs.Refusals.{no_chunk}
 use Rattle.header.specs.declared.Record.{Record}
@@ -10,21 +10,22 @@ use Rattle.report.specs.declared.Report.{Report}
 use Rattle.listing.specs.Listing.{start_of, stepped, reports_in}
 use Rattle.listing.specs.declared.Cursor.{Cursor}
 use Rattle.listing.specs.declared.Step.{Step}
-use Rattle.listing.specs.declared.Step.TheVariants.{Entry, End, Refused}
+use Rattle.listing.specs.declared.Step.TheVariants.{Entry, End}
+use Rattle.refusals.specs.declared.Refusal.{Refusal}
 
 -- ---- steps, each at the cursor that the one before handed back
 
 -- what a step reports: an entry, or none
-abbrev pub report_in : Step → List Report
-report_in (Entry r at) = r ∷ []
-report_in (End at) = []
-report_in (Refused n) = []
+abbrev pub report_in : Result Step Refusal → List Report
+report_in (Ok (Entry r at)) = r ∷ []
+report_in (Ok (End at)) = []
+report_in (Err n) = []
 
 -- the cursor that a step at `at` hands back; a refusal hands none back, and so leaves the one there was
-abbrev pub cursor_in : Cursor → Step → Cursor
-cursor_in at (Entry r next) = next
-cursor_in at (End next) = next
-cursor_in at (Refused n) = at
+abbrev pub cursor_in : Cursor → Result Step Refusal → Cursor
+cursor_in at (Ok (Entry r next)) = next
+cursor_in at (Ok (End next)) = next
+cursor_in at (Err n) = at
 
 module _ (s : List ℕ) (book : Record) where
   -- what n steps from a cursor report
@@ -55,6 +56,6 @@ pub record ListingExact (s : List ℕ) (book : Record) : Type 0 where
   -- behind the last entry is the end (K10),
   pub ends : (last_cursor s book).chunk ≡ no_chunk
   -- where every further step says so and hands the same cursor back
-  pub stays : (n : ℕ) → stepped s book (cursor_after s book n (last_cursor s book)) ≡ End (last_cursor s book)
+  pub stays : (n : ℕ) → stepped s book (cursor_after s book n (last_cursor s book)) ≡ Ok (End (last_cursor s book))
   -- the chain has every listing chunk below the count, each once, and the names of its entries rise
   pub complete : ChainListed (directory_of s book) (shape_of book)

@@ -1,5 +1,5 @@
 -- What the number of comparisons is worth: `counted`.
-use Rattle.fields.proofs.Base.{◌≡◌, refl, sym, ap, inl, inr, Bool, true, false, cond, List, [], ◌∷◌, ℕ, ◌+◌, ◌*◌, ◌^◌, ◌≤◌, arith, leb, length}
+use Rattle.fields.proofs.Base.{◌≡◌, refl, sym, ap, inl, inr, Bool, true, false, cond, List, [], ◌∷◌, ℕ, ◌+◌, ◌*◌, ◌^◌, ◌≤◌, arith, leb, length, Result, Ok, Err}
 use Rattle.fields.proofs.Tests.{never}
 use Rattle.refusals.specs.Refusals.{refusal_of}
 use Rattle.names.specs.Names.{askable, compared}
@@ -16,19 +16,22 @@ use Rattle.lookup.specs.Lookup.{outcome_in, trail_in, costs, effort_in, answer_o
 use Rattle.lookup.specs.Counted.{groups_at, Counted}
 use Rattle.lookup.specs.declared.Effort.{Effort}
 use Rattle.lookup.specs.declared.Answer.{Answer}
-use Rattle.lookup.specs.declared.Answer.TheVariants.{Found, Absent, Refused}
+use Rattle.lookup.specs.declared.Answer.TheVariants.{Found, Absent}
+use Rattle.refusals.specs.declared.Rule.{Rule}
+use Rattle.refusals.specs.declared.Rule.TheVariants.{BadName, ShortTrail, BadRecord}
+use Rattle.refusals.specs.declared.Refusal.{Refusal}
 
 -- ---- an answer that is no refusal has no other effort than x
 
-abbrev Only : Effort → Answer → Type 0
-Only x r = ((y : Report) (n : Effort) → r ≡ Found n y → n ≡ x) × ((n : Effort) → r ≡ Absent n → n ≡ x)
+abbrev Only : Effort → Result Answer Refusal → Type 0
+Only x r = ((y : Report) (n : Effort) → r ≡ Ok (Found n y) → n ≡ x) × ((n : Effort) → r ≡ Ok (Absent n) → n ≡ x)
 
 only_of : (book : Record) (x : Effort) (o : Outcome) → Only x (answer_of book x o)
 only_of book x (found c e) = ((λ y n q. let z : x ≡ n = cc in sym z), (λ n q. never (cc)))
 only_of book x absent = ((λ y n q. never (cc)), (λ n q. let z : x ≡ n = cc in sym z))
 only_of book x refused = ((λ y n q. never (cc)), (λ n q. never (cc)))
 
-only_refusal : (x : Effort) (i : ℕ) → Only x (Refused (refusal_of i))
+only_refusal : (x : Effort) (i : Rule) → Only x (Err (refusal_of i))
 only_refusal x i = ((λ y n q. never (cc)), (λ n q. never (cc)))
 
 module _ (s : List ℕ) (book : Record) (name : List ℕ) where
@@ -37,11 +40,11 @@ module _ (s : List ℕ) (book : Record) (name : List ℕ) where
   only places = go (askable name) (leb 5 places) (record_fits s book)
     where
       go : (a b c : Bool)
-          → Only (effort_in s book name) (cond a (cond b (cond c (answer_of book (effort_in s book name) (outcome_in s book name)) (Refused (refusal_of 17))) (Refused (refusal_of 16))) (Refused (refusal_of 15)))
+          → Only (effort_in s book name) (cond a (cond b (cond c (answer_of book (effort_in s book name) (outcome_in s book name)) (Err (refusal_of BadRecord))) (Err (refusal_of ShortTrail))) (Err (refusal_of BadName)))
       go true true true = only_of book (effort_in s book name) (outcome_in s book name)
-      go true true false = only_refusal (effort_in s book name) 17
-      go true false c = only_refusal (effort_in s book name) 16
-      go false b c = only_refusal (effort_in s book name) 15
+      go true true false = only_refusal (effort_in s book name) BadRecord
+      go true false c = only_refusal (effort_in s book name) ShortTrail
+      go false b c = only_refusal (effort_in s book name) BadName
 
   -- ---- the bounds
 

@@ -1,6 +1,6 @@
 -- What a search without a trail replies: by the checks of name and record (`replied_name`, `replied_record`, `replied_search`), by which refusals
 -- (`replied_refusal`), and what lookup answers where it comes to the descent's outcome (`looked_reply`).
-use Rattle.fields.proofs.Base.{◌≡◌, refl, sym, ◌⊎◌, inl, inr, Bool, true, false, cond, List, ℕ, ◌≤◌, arith, le-leb}
+use Rattle.fields.proofs.Base.{◌≡◌, refl, sym, ◌⊎◌, inl, inr, Bool, true, false, cond, List, ℕ, ◌≤◌, arith, le-leb, Err}
 use Rattle.refusals.specs.Refusals.{refusal_of}
 use Rattle.refusals.specs.declared.Refusal.{Refusal}
 use Rattle.names.specs.Names.{askable}
@@ -10,18 +10,17 @@ use Rattle.book.specs.Book.{record_fits}
 use Rattle.lookup.specs.Lookup.{outcome_in, effort_in, answer_of, looked_up}
 use Rattle.lookup.specs.Reply.{reply_to, replied_to, reply_of}
 use Rattle.lookup.specs.declared.Effort.{Effort}
-use Rattle.lookup.specs.declared.Answer.{Answer}
-use Rattle.lookup.specs.declared.Reply.TheVariants.{Refused}
+use Rattle.refusals.specs.declared.Rule.TheVariants.{BadName, BadRecord}
 
 module _ (s : List ℕ) (book : Record) (name : List ℕ) (o : Outcome) where
   -- ---- the checks
 
-  pub replied_name : askable name ≡ false → replied_to s book name o ≡ Refused (refusal_of 15)
+  pub replied_name : askable name ≡ false → replied_to s book name o ≡ Err (refusal_of BadName)
   unfolding replied_to
   replied_name h = rw h refl
 
   module _ (good : askable name ≡ true) where
-    pub replied_record : record_fits s book ≡ false → replied_to s book name o ≡ Refused (refusal_of 17)
+    pub replied_record : record_fits s book ≡ false → replied_to s book name o ≡ Err (refusal_of BadRecord)
     unfolding replied_to
     replied_record h = rw (good, h) refl
 
@@ -31,17 +30,17 @@ module _ (s : List ℕ) (book : Record) (name : List ℕ) (o : Outcome) where
 
   -- ---- a refusal
 
-  pub replied_refusal : (x : Refusal) → replied_to s book name o ≡ Refused x → (x ≡ refusal_of 15) ⊎ (x ≡ refusal_of 17)
+  pub replied_refusal : (x : Refusal) → replied_to s book name o ≡ Err x → (x ≡ refusal_of BadName) ⊎ (x ≡ refusal_of BadRecord)
   unfolding replied_to
   replied_refusal x = go (askable name) (record_fits s book) o
     where
-      go : (a b : Bool) (o : Outcome) → cond a (cond b (reply_to book o) (Refused (refusal_of 17))) (Refused (refusal_of 15)) ≡ Refused x
-          → (x ≡ refusal_of 15) ⊎ (x ≡ refusal_of 17)
+      go : (a b : Bool) (o : Outcome) → cond a (cond b (reply_to book o) (Err (refusal_of BadRecord))) (Err (refusal_of BadName)) ≡ Err x
+          → (x ≡ refusal_of BadName) ⊎ (x ≡ refusal_of BadRecord)
       go true true (found c e) q = absurd (let z : ◌≡◌ {A = ℕ} 0 1 = cc in omega arith)
       go true true absent q = absurd (let z : ◌≡◌ {A = ℕ} 0 1 = cc in omega arith)
-      go true true refused q = let z : refusal_of 17 ≡ x = cc in inr (sym z)
-      go true false o q = let z : refusal_of 17 ≡ x = cc in inr (sym z)
-      go false b o q = let z : refusal_of 15 ≡ x = cc in inl (sym z)
+      go true true refused q = let z : refusal_of BadRecord ≡ x = cc in inr (sym z)
+      go true false o q = let z : refusal_of BadRecord ≡ x = cc in inr (sym z)
+      go false b o q = let z : refusal_of BadName ≡ x = cc in inl (sym z)
 
 -- ---- lookup's answer
 
@@ -55,8 +54,8 @@ unfolding looked_up replied_to
 looked_reply s book name places h = rw (le-leb 5 places h) (go (askable name) (record_fits s book))
   where
     go : (a b : Bool)
-        → reply_of (cond a (cond b (answer_of book (effort_in s book name) (outcome_in s book name)) (Answer.Refused (refusal_of 17))) (Answer.Refused (refusal_of 15)))
-        ≡ cond a (cond b (reply_to book (outcome_in s book name)) (Refused (refusal_of 17))) (Refused (refusal_of 15))
+        → reply_of (cond a (cond b (answer_of book (effort_in s book name) (outcome_in s book name)) (Err (refusal_of BadRecord))) (Err (refusal_of BadName)))
+        ≡ cond a (cond b (reply_to book (outcome_in s book name)) (Err (refusal_of BadRecord))) (Err (refusal_of BadName))
     go true true = reply_answer book (effort_in s book name) (outcome_in s book name)
     go true false = refl
     go false b = refl

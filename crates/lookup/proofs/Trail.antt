@@ -1,8 +1,9 @@
 -- The trail is written on the way back: a chunk's number goes in front of those that stand behind it already.
-use Rattle.fields.proofs.Base.{◌≡◌, refl, ap, ◌∙◌, Bool, true, false, cond, List, [], ◌∷◌, ◌++◌, ℕ, suc, ◌+◌, ◌≤◌, ◌<◌, add-one, arith, length, set, drop, sets, sets-eq}
+use Rattle.fields.proofs.Base.{◌≡◌, refl, ap, ◌∙◌, Bool, true, false, cond, List, [], ◌∷◌, ◌++◌, ℕ, suc, ◌+◌, ◌≤◌, ◌<◌, add-one, arith, length, set, drop, sets, sets-eq, Result}
 use lib.Seq.{set_comm}
 use Rattle.lookup.specs.Lookup.{is_refusal, unless}
 use Rattle.lookup.specs.declared.Answer.{Answer}
+use Rattle.refusals.specs.declared.Refusal.{Refusal}
 
 sets_behind : (t : List ℕ) (i j c : ℕ) (cs : List ℕ) → i < j → set (sets t j cs) i c ≡ sets (set t i c) j cs
 sets_behind t i j c [] h = refl
@@ -14,7 +15,7 @@ pub in_front : (t : List ℕ) (i c : ℕ) (cs : List ℕ) → set (sets t (i + 1
 in_front t i c cs = rw add-one (sets_behind t i (suc i) c cs (omega arith))
 
 -- `t` is the trail as it was, `u` as the rest of the descent left it, `v` with chunk c at its place
-pub unwound : (r : Answer) (t u v : List ℕ) (i c : ℕ) (cs : List ℕ) → u ≡ unless r t (sets t (i + 1) cs) → v ≡ unless r u (set u i c)
+pub unwound : (r : Result Answer Refusal) (t u v : List ℕ) (i c : ℕ) (cs : List ℕ) → u ≡ unless r t (sets t (i + 1) cs) → v ≡ unless r u (set u i c)
     → v ≡ unless r t (sets t i (c ∷ cs))
 unwound r t u v i c cs = go (is_refusal r)
   where

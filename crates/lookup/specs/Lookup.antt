@@ -1,5 +1,5 @@
 -- The lookup of a name in a file by a record, which may be made up: its answer, and what it leaves in the lent trail (FORMAT, Asking).
-use Rattle.std.specs.Prelude.{Bool, true, false, cond, List, [], ◌∷◌, ℕ, ◌+◌, length, leb}
+use Rattle.std.specs.Prelude.{Bool, true, false, cond, List, [], ◌∷◌, ℕ, ◌+◌, length, leb, Result, Ok, Err}
 use Rattle.std.proofs.lemmas.List.Edits.{sets}
 use Rattle.refusals.specs.Refusals.{refusal_of}
 use Rattle.names.specs.Names.{askable}
@@ -10,7 +10,9 @@ use Rattle.report.specs.Report.{report_of}
 use Rattle.search.specs.Search.{cost_at}
 use Rattle.lookup.specs.declared.Effort.{Effort}
 use Rattle.lookup.specs.declared.Answer.{Answer}
-use Rattle.lookup.specs.declared.Answer.TheVariants.{Found, Absent, Refused}
+use Rattle.lookup.specs.declared.Answer.TheVariants.{Found, Absent}
+use Rattle.refusals.specs.declared.Rule.TheVariants.{BadName, ShortTrail, BadRecord}
+use Rattle.refusals.specs.declared.Refusal.{Refusal}
 
 -- ---- the descent in a file, read with the record's numbers (K2, Q1 to Q6)
 
@@ -39,31 +41,31 @@ effort_in s book name = record { chunks = count_in s book name; comparisons = co
 
 -- what a descent answers (K3): found has the five numbers of the entry (K6), and found and absent, which are no refusals (RO9), have what it took, n;
 -- 17 where it met a chunk that is none of its level (R17, RO7, K13, K14)
-abbrev pub answer_of : Record → Effort → Outcome → Answer
-answer_of book n (found c e) = Found n (report_of book c e)
-answer_of book n absent = Absent n
-answer_of book n refused = Refused (refusal_of 17)
+abbrev pub answer_of : Record → Effort → Outcome → Result Answer Refusal
+answer_of book n (found c e) = Ok (Found n (report_of book c e))
+answer_of book n absent = Ok (Absent n)
+answer_of book n refused = Err (refusal_of BadRecord)
 
 -- the checks in their order (RO5): the name (R15), the number of the trail's places (R16), the record (R17, K12); then the descent
-unfoldable pub looked_up : List ℕ → Record → List ℕ → ℕ → Answer
+unfoldable pub looked_up : List ℕ → Record → List ℕ → ℕ → Result Answer Refusal
 looked_up s book name places =
     cond (askable name)
     (cond (leb 5 places)
     (cond (record_fits s book)
     (answer_of book (effort_in s book name) (outcome_in s book name))
-    (Refused (refusal_of 17)))
-    (Refused (refusal_of 16)))
-    (Refused (refusal_of 15))
+    (Err (refusal_of BadRecord)))
+    (Err (refusal_of ShortTrail)))
+    (Err (refusal_of BadName))
 
 -- ---- the trail
 
-abbrev pub is_refusal : Answer → Bool
-is_refusal (Found n x) = false
-is_refusal (Absent n) = false
-is_refusal (Refused x) = true
+abbrev pub is_refusal : Result Answer Refusal → Bool
+is_refusal (Ok (Found n x)) = false
+is_refusal (Ok (Absent n)) = false
+is_refusal (Err x) = true
 
 -- what becomes of a trail with an answer: after a refusal it is as it was (RO8)
-abbrev pub unless : Answer → List ℕ → List ℕ → List ℕ
+abbrev pub unless : Result Answer Refusal → List ℕ → List ℕ → List ℕ
 unless r was is = cond (is_refusal r) was is
 
 -- the numbers of the descent's chunks from place 0 on (K4), the later places as they were (K5)

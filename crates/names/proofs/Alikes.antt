@@ -1,5 +1,5 @@
 -- Laws of `Alike`: how it is found, how it grows, and that what is alike decides nothing.
-use Rattle.fields.proofs.Base.{◌≡◌, refl, sym, ap, ap₂, ◌∙◌, List, ◌++◌, ℕ, ◌+◌, ◌-◌, ◌≤◌, ◌<◌, arith, length, get_or, drop}
+use Rattle.fields.proofs.Base.{◌≡◌, sym, ap, ap₂, ◌∙◌, List, ◌++◌, ℕ, ◌+◌, ◌-◌, ◌≤◌, ◌<◌, arith, length, get_or, drop}
 use Rattle.fields.specs.Le.{le}
 use Rattle.fields.specs.Part.{part}
 use Rattle.fields.proofs.Le.{le_tells}
@@ -9,10 +9,7 @@ use Rattle.names.specs.Alike.{Alike, Reached}
 use Rattle.names.proofs.Laws.{compared_behind}
 
 module _ (a b : List ℕ) where
-  -- ---- no bytes, one byte, the bytes of a number
-
-  pub alike_none : (i k n : ℕ) → i ≤ length a → k ≤ length b → n ≡ 0 → Alike a b i k n
-  alike_none i k n p q e = rw e (record { first = omega arith; second = omega arith; bytes = refl })
+  -- ---- one byte, the bytes of a number
 
   pub alike_byte : (i k : ℕ) → i < length a → k < length b → get_or a i 0 ≡ get_or b k 0 → Alike a b i k 1
   alike_byte i k p q e = record { first = omega arith; second = omega arith; bytes = rw (drop_more a i p, drop_more b k q, e) }

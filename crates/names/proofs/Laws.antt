@@ -1,9 +1,10 @@
 -- Laws of the order of names, and what follows from the laws of any order.
 use Rattle.fields.proofs.Base.{◌≡◌, refl, ap, ◌∙◌, ◌≢◌, ◌⊎◌, inl, inr, ⊎_elim, Bool, true, false, false≢true, List, [], ◌∷◌, ◌++◌, ℕ}
-use Rattle.names.specs.Order.{flip, is_less, is_equal, by_element, OrderLaws}
+use Rattle.names.specs.Order.{by_element, OrderLaws}
+use Rattle.std.specs.Ordering.{ordering_reverse, is_lt, is_eq}
 use Rattle.names.specs.Names.{folded, compared, below, matches}
-use Rattle.names.specs.declared.Order.{Order}
-use Rattle.names.specs.declared.Order.TheVariants.{Less, Equal, Greater}
+use Rattle.std.specs.declared.cmp.Ordering.{Ordering}
+use Rattle.std.specs.declared.cmp.Ordering.TheVariants.{Less, Equal, Greater}
 use Rattle.names.proofs.Orders.{through_laws, numbers_laws, lists_behind, lists_laws}
 pub use Rattle.names.proofs.Orders.{equal_right, less_equal}
 
@@ -17,36 +18,36 @@ unfolding compared
 compared_behind p a b = lists_behind (through_laws numbers_laws folded) p a b
 
 -- not behind
-abbrev pub not_greater : Order → Bool
+abbrev pub not_greater : Ordering → Bool
 not_greater Less = true
 not_greater Equal = true
 not_greater Greater = false
 
--- ---- a test of an answer tells the answer; the other way round is `ap is_less`, `ap is_equal`, `ap not_greater`
+-- ---- a test of an answer tells the answer; the other way round is `ap is_lt`, `ap is_eq`, `ap not_greater`
 
-pub is_less_true : (o : Order) → is_less o ≡ true → o ≡ Less
+pub is_less_true : (o : Ordering) → is_lt o ≡ true → o ≡ Less
 is_less_true Less h = refl
 is_less_true Equal h = absurd (false≢true h)
 is_less_true Greater h = absurd (false≢true h)
 
-pub is_equal_true : (o : Order) → is_equal o ≡ true → o ≡ Equal
+pub is_equal_true : (o : Ordering) → is_eq o ≡ true → o ≡ Equal
 is_equal_true Less h = absurd (false≢true h)
 is_equal_true Equal h = refl
 is_equal_true Greater h = absurd (false≢true h)
 
-pub not_greater_true : (o : Order) → not_greater o ≡ true → (o ≡ Less) ⊎ (o ≡ Equal)
+pub not_greater_true : (o : Ordering) → not_greater o ≡ true → (o ≡ Less) ⊎ (o ≡ Equal)
 not_greater_true Less h = inl refl
 not_greater_true Equal h = inr refl
 not_greater_true Greater h = absurd (false≢true h)
 
-not_less_flip : (o : Order) → o ≢ Less → not_greater (flip o) ≡ true
+not_less_flip : (o : Ordering) → o ≢ Less → not_greater (ordering_reverse o) ≡ true
 not_less_flip Less h = absurd (h refl)
 not_less_flip Equal h = refl
 not_less_flip Greater h = refl
 
 -- ---- any order
 
-module _ {A : Type 0} {compare : A → A → Order} (L : OrderLaws compare) where
+module _ {A : Type 0} {compare : A → A → Ordering} (L : OrderLaws compare) where
   -- the other way round
   pub equal_sym : (a b : A) → compare a b ≡ Equal → compare b a ≡ Equal
   equal_sym a b p = rw (L.compare_flip a b, p)
@@ -78,7 +79,7 @@ module _ (a b : List ℕ) where
 
   pub less_below : compared a b ≡ Less → below a b ≡ true
   unfolding below
-  less_below h = ap is_less h
+  less_below h = ap is_lt h
 
   pub matches_equal : matches a b ≡ true → compared a b ≡ Equal
   unfolding matches
@@ -86,14 +87,14 @@ module _ (a b : List ℕ) where
 
   pub equal_matches : compared a b ≡ Equal → matches a b ≡ true
   unfolding matches
-  equal_matches h = ap is_equal h
+  equal_matches h = ap is_eq h
 
 pub below_trans : (a b c : List ℕ) → below a b ≡ true → below b c ≡ true → below a c ≡ true
 below_trans a b c h k = less_below a c (names_laws.less_trans a b c (below_less a b h) (below_less b c k))
 
 pub below_self : (a : List ℕ) → below a a ≡ false
 unfolding below
-below_self a = ap is_less (names_laws.compare_self a)
+below_self a = ap is_lt (names_laws.compare_self a)
 
 -- no bytes come before any name
 pub below_none : (x : ℕ) (a : List ℕ) → below [] (x ∷ a) ≡ true

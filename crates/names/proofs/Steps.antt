@@ -1,10 +1,11 @@
 -- What one turn of a comparison finds: the two names from index i on.
 use Rattle.fields.proofs.Base.{◌≡◌, List, ℕ, ◌+◌, ◌≤◌, ◌<◌, add-one, length, get_or, drop, drop_of_length-le}
 use lib.Seq.{drop-cons}
-use Rattle.names.specs.Order.{then_by, by_element}
+use Rattle.names.specs.Order.{by_element}
+use Rattle.std.specs.Ordering.{ordering_then}
 use Rattle.names.specs.Names.{folded, compared}
-use Rattle.names.specs.declared.Order.{Order}
-use Rattle.names.specs.declared.Order.TheVariants.{Less, Equal, Greater}
+use Rattle.std.specs.declared.cmp.Ordering.{Ordering}
+use Rattle.std.specs.declared.cmp.Ordering.TheVariants.{Less, Equal, Greater}
 use Rattle.names.proofs.Orders.{Says, says_number}
 
 module _ (a b : List ℕ) (i : ℕ) where
@@ -22,7 +23,7 @@ module _ (a b : List ℕ) (i : ℕ) where
   both_end p q = rw (drop_of_length-le a p, drop_of_length-le b q)
 
   -- both names go on: the bytes at i decide, unless they are equal
-  pub turn : (o : Order) → i < length a → i < length b → Says o (folded (get_or a i 0)) (folded (get_or b i 0))
-      → compared (drop i a) (drop i b) ≡ then_by o (compared (drop (i + 1) a) (drop (i + 1) b))
+  pub turn : (o : Ordering) → i < length a → i < length b → Says o (folded (get_or a i 0)) (folded (get_or b i 0))
+      → compared (drop i a) (drop i b) ≡ ordering_then o (compared (drop (i + 1) a) (drop (i + 1) b))
   unfolding compared by_element
   turn o p q h = rw (add-one, drop-cons a i 0, drop-cons b i 0, says_number o (folded (get_or a i 0)) (folded (get_or b i 0)) h)

@@ -6,13 +6,7 @@ ghost use Rattle.fields.specs.Le.{le};
 ghost use Rattle.names.specs.Names.{folded, compared, below, matches, order_code, askable};
 ghost use Rattle.names.specs.Alike.{Reached};
 
-// How one name stands to another.
-#[derive(Clone, Copy)]
-pub enum Order {
-    Less,
-    Equal,
-    Greater,
-}
+use std::cmp::Ordering;
 
 // A byte as it is compared: 41..5A hex as 61..7A.
 pub fn fold(b: u8) -> u8
@@ -55,7 +49,8 @@ fn eight(s: &[u8], i: usize) -> u64
     four(s, i) + 0x1_0000_0000 * four(s, i + 4)
 }
 
-// Up to where in a its bytes from `from` on are those of b from `at` on, looked at by eights and no further than `end`.
+// Up to where in a its bytes from `from` on are those of b from `at` on, looked at by eights and no further than `end`. The loops of this comparing count by
+// hand: their bar (docs/BENCHMARKS.md, host test `compare`) hangs on what the compiler makes of them.
 fn same_by_eights(a: &[u8], from: usize, b: &[u8], at: usize, end: usize) -> usize
     requires { (from ≤ end) × (end ≤ length a.now) × (at + (end - from) ≤ length b.now) }
     ensures { Reached a.now b.now from at end result }
@@ -98,12 +93,12 @@ fn same_up_to(a: &[u8], from: usize, b: &[u8], at: usize, end: usize) -> usize
 fn shorter(a: &[u8], b: &[u8]) -> usize
     ensures { (result ≤ length a.now) × (result ≤ length b.now) × (result < length a.now → length b.now ≤ result) }
 {
-    if a.len() < b.len() { a.len() } else { b.len() }
+    a.len().min(b.len())
 }
 
 // How the name a stands to the name b. Names that stand beside each other mostly agree byte for byte, and bytes that are the same need no folding: it is done at a
 // difference alone, and where the folded bytes agree, what is behind is passed over again.
-pub fn compare(a: &[u8], b: &[u8]) -> Order
+pub fn compare(a: &[u8], b: &[u8]) -> Ordering
     ensures { result ≡ compared a.now b.now }
 {
     let end = shorter(a, b);
@@ -112,20 +107,20 @@ pub fn compare(a: &[u8], b: &[u8]) -> Order
         i = same_up_to(a, i, b, i, end);
         if end <= i {
             if i < a.len() {
-                return Order::Greater;
+                return Ordering::Greater;
             }
             if i < b.len() {
-                return Order::Less;
+                return Ordering::Less;
             }
-            return Order::Equal;
+            return Ordering::Equal;
         }
         let x = fold(a[i]);
         let y = fold(b[i]);
         if x < y {
-            return Order::Less;
+            return Ordering::Less;
         }
         if y < x {
-            return Order::Greater;
+            return Ordering::Greater;
         }
         i += 1;
     }
@@ -135,32 +130,24 @@ pub fn compare(a: &[u8], b: &[u8]) -> Order
 pub fn is_below(a: &[u8], b: &[u8]) -> bool
     ensures { result ≡ below a.now b.now }
 {
-    match compare(a, b) {
-        Order::Less => true,
-        Order::Equal => false,
-        Order::Greater => false,
-    }
+    compare(a, b).is_lt()
 }
 
 // Whether a compares equal to b.
 pub fn is_match(a: &[u8], b: &[u8]) -> bool
     ensures { result ≡ matches a.now b.now }
 {
-    match compare(a, b) {
-        Order::Less => false,
-        Order::Equal => true,
-        Order::Greater => false,
-    }
+    compare(a, b).is_eq()
 }
 
 // An answer as a number: 0 below, 1 equal, 2 above.
-fn order_code(o: Order) -> u64
+fn order_code(o: Ordering) -> u64
     ensures { result ≡ order_code o }
 {
     match o {
-        Order::Less => 0,
-        Order::Equal => 1,
-        Order::Greater => 2,
+        Ordering::Less => 0,
+        Ordering::Equal => 1,
+        Ordering::Greater => 2,
     }
 }
 

@@ -6,15 +6,12 @@ ghost use Rattle.std.specs.Prelude.{◌≡◌};
 ghost use Rattle.page.specs.Page.{five_of};
 ghost use Rattle.numbers.specs.Numbers.{record_in, record_numbers, refusal_code, open_code, open_record, lookup_code, lookup_numbers, reply_code, reply_numbers, batch_code, cursor_in, cursor_numbers, step_code, step_cursor, step_numbers, own_code, own_numbers, page_code, page_numbers, write_code, write_numbers};
 
-use batch::Batched;
 use header::Record;
-use listing::{Cursor, Owned, Step};
+use listing::{Cursor, Step};
 use lookup::{Answer, Reply};
-use opening::Opened;
 use page::Page;
 use refusals::Refusal;
-use report::Report;
-use writer::Written;
+use report::{Own, Report};
 
 // The numbers of a record; `HODS_RECORD` in include/hodsplinter.h is how many there are.
 pub type Numbers = [u64; 11];
@@ -23,10 +20,10 @@ pub type Numbers = [u64; 11];
 pub fn code(r: Refusal) -> u64
     ensures { result ≡ refusal_code r }
 {
-    r.number as u64 + 256 * (r.chunk as u64)
+    r.number() as u64 + 256 * (r.chunk_number() as u64)
 }
 
-// The record of these numbers.
+// The record of these numbers. No `From`: record and array are both of other crates.
 pub fn record_in(n: &Numbers) -> Record
     ensures { result ≡ record_in n.now }
 {
@@ -56,26 +53,26 @@ fn record_numbers(r: Record) -> Numbers
 }
 
 // What opening answers.
-pub fn tell_opened(answer: Opened, numbers: &mut Numbers) -> u64
+pub fn tell_opened(answer: Result<Record, Refusal>, numbers: &mut Numbers) -> u64
     ensures code { result ≡ open_code answer }
     ensures numbers { numbers.new ≡ open_record answer numbers.old }
 {
     match answer {
-        Opened::Book(b) => {
+        Ok(b) => {
             *numbers = record_numbers(b);
             0
         }
-        Opened::Refused(r) => code(r),
+        Err(r) => code(r),
     }
 }
 
 // What lookup answers: the count of chunks, the five numbers of what was found, the count of comparisons.
-pub fn tell_lookup(answer: Answer, numbers: &mut [u64; 7]) -> u64
+pub fn tell_lookup(answer: Result<Answer, Refusal>, numbers: &mut [u64; 7]) -> u64
     ensures code { result ≡ lookup_code answer }
     ensures numbers { numbers.new ≡ lookup_numbers answer numbers.old }
 {
     match answer {
-        Answer::Found(n, x) => {
+        Ok(Answer::Found(n, x)) => {
             *numbers = [
                 n.chunks as u64,
                 x.place,
@@ -87,12 +84,12 @@ pub fn tell_lookup(answer: Answer, numbers: &mut [u64; 7]) -> u64
             ];
             0
         }
-        Answer::Absent(n) => {
+        Ok(Answer::Absent(n)) => {
             numbers[0] = n.chunks as u64;
             numbers[6] = n.comparisons as u64;
             255
         }
-        Answer::Refused(r) => code(r),
+        Err(r) => code(r),
     }
 }
 
@@ -109,22 +106,22 @@ pub fn tell_reply(reply: Reply, numbers: &mut [u64; 5]) -> u64
     ensures numbers { numbers.new ≡ reply_numbers reply numbers.old }
 {
     match reply {
-        Reply::Found(x) => {
+        Ok(Some(x)) => {
             *numbers = five(x);
             0
         }
-        Reply::Absent => 255,
-        Reply::Refused(r) => code(r),
+        Ok(None) => 255,
+        Err(r) => code(r),
     }
 }
 
 // What a batch answers.
-pub fn tell_batched(answer: Batched) -> u64
+pub fn tell_batched(answer: Result<(), Refusal>) -> u64
     ensures { result ≡ batch_code answer }
 {
     match answer {
-        Batched::Answered => 0,
-        Batched::Refused(r) => code(r),
+        Ok(()) => 0,
+        Err(r) => code(r),
     }
 }
 
@@ -146,61 +143,61 @@ pub fn cursor_numbers(at: Cursor) -> [u64; 2]
 }
 
 // What a step answers: the cursor moved on, and the five numbers of the entry.
-pub fn tell_step(step: Step, cursor: &mut [u64; 2], numbers: &mut [u64; 5]) -> u64
+pub fn tell_step(step: Result<Step, Refusal>, cursor: &mut [u64; 2], numbers: &mut [u64; 5]) -> u64
     ensures code { result ≡ step_code step }
     ensures cursor { cursor.new ≡ step_cursor step cursor.old }
     ensures numbers { numbers.new ≡ step_numbers step numbers.old }
 {
     match step {
-        Step::Entry(x, next) => {
+        Ok(Step::Entry(x, next)) => {
             *cursor = cursor_numbers(next);
             *numbers = five(x);
             0
         }
-        Step::End(_) => 255,
-        Step::Refused(r) => code(r),
+        Ok(Step::End(_)) => 255,
+        Err(r) => code(r),
     }
 }
 
 // Where own bytes stand, and how many they are.
-pub fn tell_own(own: Owned, numbers: &mut [u64; 2]) -> u64
+pub fn tell_own(own: Option<Own>, numbers: &mut [u64; 2]) -> u64
     ensures code { result ≡ own_code own }
     ensures numbers { numbers.new ≡ own_numbers own numbers.old }
 {
     match own {
-        Owned::At(x) => {
+        Some(x) => {
             *numbers = [x.place, x.length];
             0
         }
-        Owned::Nothing => 255,
+        None => 255,
     }
 }
 
 // What a page answers: its count of entries and the next chunk.
-pub fn tell_page(page: Page, numbers: &mut [u64; 2]) -> u64
+pub fn tell_page(page: Result<Page, Refusal>, numbers: &mut [u64; 2]) -> u64
     ensures code { result ≡ page_code page }
     ensures numbers { numbers.new ≡ page_numbers page numbers.old }
 {
     match page {
-        Page::Entries(n, next) => {
+        Ok(Page::Entries(n, next)) => {
             *numbers = [n as u64, next as u64];
             0
         }
-        Page::Short => 255,
-        Page::Refused(r) => code(r),
+        Ok(Page::Short) => 255,
+        Err(r) => code(r),
     }
 }
 
 // What the writer answers: the length of the head.
-pub fn tell_written(answer: Written, numbers: &mut [u64; 1]) -> u64
+pub fn tell_written(answer: Result<u64, Refusal>, numbers: &mut [u64; 1]) -> u64
     ensures code { result ≡ write_code answer }
     ensures numbers { numbers.new ≡ write_numbers answer numbers.old }
 {
     match answer {
-        Written::Length(n) => {
+        Ok(n) => {
             *numbers = [n];
             0
         }
-        Written::Refused(r) => code(r),
+        Err(r) => code(r),
     }
 }

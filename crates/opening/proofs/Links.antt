@@ -1,5 +1,5 @@
 -- Chain and tree as the code checks them are chain and tree as they are defined.
-use Rattle.fields.proofs.Base.{◌≡◌, sym, cond, List, ℕ, ◌-◌, ◌≤◌, arith}
+use Rattle.fields.proofs.Base.{◌≡◌, sym, cond, List, ℕ, ◌-◌, ◌≤◌, arith, Ok, Err}
 use Rattle.refusals.specs.Refusals.{refusal_of}
 use Rattle.header.specs.declared.Record.{Record}
 use Rattle.tree.specs.Shape.{GoodChunks}
@@ -9,8 +9,8 @@ use Rattle.tree.proofs.Chunks.{kinds_count}
 use Rattle.tree.proofs.Walked.{checks_same}
 use Rattle.book.specs.Book.{limits_of, chunk_bytes, directory_of, shape_of}
 use Rattle.opening.specs.Opened.{linked_book}
-use Rattle.opening.specs.declared.Opened.TheVariants.{Book, Refused}
 use Rattle.opening.specs.Passes.{GoodBook}
+use Rattle.refusals.specs.declared.Rule.TheVariants.{BrokenChain, BrokenTree}
 
 module _ (s : List ℕ) (r : Record) (good : GoodBook s r) where
   pub chunks_good : GoodChunks (directory_of s r) (shape_of r)
@@ -24,6 +24,6 @@ module _ (s : List ℕ) (r : Record) (good : GoodBook s r) where
   pub listing_count : listings (directory_of s r) (shape_of r) ≤ r.count
   listing_count = omega (arith, kinds_count (directory_of s r) (shape_of r) chunks_good)
 
-  pub linked_run : linked_book s r ≡ cond (chain_run_ok (directory_of s r) (shape_of r)) (cond (tree_walk_ok (directory_of s r) (shape_of r)) (Book r) (Refused (refusal_of 14))) (Refused (refusal_of 13))
+  pub linked_run : linked_book s r ≡ cond (chain_run_ok (directory_of s r) (shape_of r)) (cond (tree_walk_ok (directory_of s r) (shape_of r)) (Ok r) (Err (refusal_of BrokenTree))) (Err (refusal_of BrokenChain))
   unfolding linked_book
-  linked_run = let f = good.few in sym (checks_same (directory_of s r) (shape_of r) chunks_good (omega arith) (Book r) (Refused (refusal_of 14)) (Refused (refusal_of 13)))
+  linked_run = let f = good.few in sym (checks_same (directory_of s r) (shape_of r) chunks_good (omega arith) (Ok r) (Err (refusal_of BrokenTree)) (Err (refusal_of BrokenChain)))

@@ -1,7 +1,7 @@
 -- Each refusal of opening bears a number of the table, and the place that belongs to it: `refusal_told`.
-use Rattle.fields.proofs.Base.{◌≡◌, refl, sym, ap, subst, ◌∙◌, Bool, true, false, cond, List, [], ℕ, zero, suc, ◌+◌, ◌-◌, ◌≤◌, ◌<◌, arith, ℕ_discrete, length, eqb}
+use Rattle.fields.proofs.Base.{◌≡◌, refl, sym, ap, subst, ◌∙◌, Bool, true, false, cond, List, [], ℕ, zero, suc, ◌+◌, ◌-◌, ◌≤◌, ◌<◌, arith, ℕ_discrete, length, eqb, Result, Ok, Err, Some, None}
 use Rattle.fields.specs.Same.{stands_at}
-use Rattle.refusals.specs.Refusals.{no_chunk, refusal_of}
+use Rattle.refusals.specs.Refusals.{number_of, refusal_of, refusal_at}
 use Rattle.refusals.specs.declared.Refusal.{Refusal}
 use Rattle.entries.specs.declared.Limits.{Limits}
 use Rattle.entries.specs.declared.Kind.{Kind}
@@ -12,21 +12,19 @@ use Rattle.entries.specs.Entry.{entry_name}
 use Rattle.chunk_fields.specs.ChunkFields.{tag_of, first_place, entry_count, tail_length, spacing_of}
 use Rattle.header.specs.Header.{header_of}
 use Rattle.header.specs.declared.Record.{Record}
-use Rattle.header.specs.declared.CheckedHeader.{CheckedHeader}
-use Rattle.header.specs.declared.CheckedHeader.TheVariants.{Good}
 use Rattle.header.proofs.Checks.{header_refused}
 use Rattle.tree.specs.Chain.{chain_ok}
 use Rattle.tree.specs.Tree.{tree_ok}
 use Rattle.book.specs.Book.{limits_of, chunk_bytes, directory_of, shape_of}
 use Rattle.opening.specs.Opened.{chunks_then, linked_book, with_header, opened, chunk_then}
 use Rattle.opening.specs.Refusals.{ChunksGood, Told, head, chunk, chain, tree}
-use Rattle.opening.specs.declared.Opened.{Opened}
-use Rattle.opening.specs.declared.Opened.TheVariants.{Book, Refused}
+use Rattle.refusals.specs.declared.Rule.TheVariants.{ChunkTag, ChunkFrame, QuickWords, NameOrder, BrokenChain, BrokenTree}
+use Rattle.refusals.specs.declared.Rule.{Rule}
 
 -- ---- a bad chunk's number is from 8 to 12
 
 abbrev InTable : Parsed → Type 0
-InTable (bad n) = (8 ≤ n) × (n ≤ 12)
+InTable (bad n) = (8 ≤ number_of n) × (number_of n ≤ 12)
 InTable (listing prev next es) = Unit {0}
 InTable (index es) = Unit {0}
 
@@ -39,7 +37,7 @@ unfolding checked_entries
 judged_table n k s broken = (omega arith, omega arith)
 judged_table n k s (all es) = go (rising entry_name [] es) (quick s n (first_place k) 0 es)
   where
-    go : (a b : Bool) → InTable (cond a (cond b (parsed_with k s es) (bad 11)) (bad 12))
+    go : (a b : Bool) → InTable (cond a (cond b (parsed_with k s es) (bad QuickWords)) (bad NameOrder))
     go true true = made_table k s es
     go true false = (omega arith, omega arith)
     go false b = (omega arith, omega arith)
@@ -48,7 +46,7 @@ as_table : (n : ℕ) (limits : Limits) (k : Kind) (s : List ℕ) → InTable (pa
 unfolding parsed_as
 as_table n limits k s = go (framed n k s)
   where
-    go : (t : Bool) → InTable (cond t (checked_entries n k s (entries_at limits k s (4096 - tail_length s) (entry_count s) (first_place k))) (bad 9))
+    go : (t : Bool) → InTable (cond t (checked_entries n k s (entries_at limits k s (4096 - tail_length s) (entry_count s) (first_place k))) (bad ChunkFrame))
     go true = judged_table n k s (entries_at limits k s (4096 - tail_length s) (entry_count s) (first_place k))
     go false = (omega arith, omega arith)
 
@@ -59,71 +57,69 @@ fault_table limits s = go (eqb (length s) 4096) (stands_at s 0 (tag_of Listing))
     whole : Kind → Parsed
     whole k = parsed_as (spacing_of limits.density) limits k s
 
-    go : (a b c : Bool) → InTable (cond a (cond b (whole Listing) (cond c (whole Index) (bad 8))) (bad 8))
+    go : (a b c : Bool) → InTable (cond a (cond b (whole Listing) (cond c (whole Index) (bad ChunkTag))) (bad ChunkTag))
     go true true c = as_table _ limits Listing s
     go true false true = as_table _ limits Index s
     go true false false = (omega arith, omega arith)
     go false b c = (omega arith, omega arith)
 
-chunk_table : (s : List ℕ) (r : Record) (c n : ℕ) → directory_of s r c ≡ bad n → (8 ≤ n) × (n ≤ 12)
+chunk_table : (s : List ℕ) (r : Record) (c : ℕ) (n : Rule) → directory_of s r c ≡ bad n → (8 ≤ number_of n) × (number_of n ≤ 12)
 unfolding directory_of
 chunk_table s r c n e = subst InTable e (fault_table (limits_of s r) (chunk_bytes s r c))
 
 -- ---- the pass over the chunks: it refuses by the first bad one, or leaves the answer to what follows
 
-data Passing (D : ℕ → Parsed) (n c : ℕ) (x : Refusal) (o : Opened) : Type 0 where
-  stops : c ≤ x.chunk → x.chunk < c + n → D x.chunk ≡ bad x.number → ((i : ℕ) → c ≤ i → i < x.chunk → is_good (D i) ≡ true) → Passing D n c x o
-  follows : o ≡ Refused x → ((i : ℕ) → c ≤ i → i < c + n → is_good (D i) ≡ true) → Passing D n c x o
+data Passing (D : ℕ → Parsed) (n c : ℕ) (x : Refusal) (o : Result Record Refusal) : Type 0 where
+  stops : (k : ℕ) → x.chunk ≡ Some k → c ≤ k → k < c + n → D k ≡ bad x.rule → ((i : ℕ) → c ≤ i → i < k → is_good (D i) ≡ true) → Passing D n c x o
+  follows : o ≡ Err x → ((i : ℕ) → c ≤ i → i < c + n → is_good (D i) ≡ true) → Passing D n c x o
 
-passing : (D : ℕ → Parsed) (n c : ℕ) (x : Refusal) (o : Opened) → chunks_then D n c o ≡ Refused x → Passing D n c x o
+passing : (D : ℕ → Parsed) (n c : ℕ) (x : Refusal) (o : Result Record Refusal) → chunks_then D n c o ≡ Err x → Passing D n c x o
 unfolding chunks_then
 passing D zero c x o e = follows e (λ i l h. absurd (omega arith))
 passing D (suc n) c x o e = go (D c) refl (passing D n (c + 1) x o) e
   where
     later : is_good (D c) ≡ true → Passing D n (c + 1) x o → Passing D (suc n) c x o
-    later f (stops a b q g) =
-        stops (omega arith) (omega arith) q (λ i l h. elim (ℕ_discrete i c) [ yes y ↦ rw y f | no y ↦ g i (omega arith) h ])
+    later f (stops k y a b q g) =
+        stops k y (omega arith) (omega arith) q (λ i l h. elim (ℕ_discrete i c) [ yes z ↦ rw z f | no z ↦ g i (omega arith) h ])
     later f (follows q g) = follows q (λ i l h. elim (ℕ_discrete i c) [ yes y ↦ rw y f | no y ↦ g i (omega arith) (omega arith) ])
 
-    go : (p : Parsed) → D c ≡ p → (chunks_then D n (c + 1) o ≡ Refused x → Passing D n (c + 1) x o)
-        → chunk_then p c (chunks_then D n (c + 1) o) ≡ Refused x → Passing D (suc n) c x o
+    go : (p : Parsed) → D c ≡ p → (chunks_then D n (c + 1) o ≡ Err x → Passing D n (c + 1) x o)
+        → chunk_then p c (chunks_then D n (c + 1) o) ≡ Err x → Passing D (suc n) c x o
     go (bad m) f ih q =
-        let y : record { number = m; chunk = c } ≡ x = cc in
-        let a : m ≡ x.number = ap (λ (w : Refusal). w.number) y in
-        let b : c ≡ x.chunk = ap (λ (w : Refusal). w.chunk) y in
-        stops (omega arith) (omega arith) (subst (λ (i : ℕ). D i ≡ bad x.number) b (f ∙ ap bad a)) (λ i l h. absurd (omega arith))
+        let y : refusal_at m c ≡ x = cc in
+        stops c (sym (ap (λ (w : Refusal). w.chunk) y)) (omega arith) (omega arith) (f ∙ ap (λ (w : Refusal). bad w.rule) y) (λ i l h. absurd (omega arith))
     go (listing prev next es) f ih q = later (ap is_good f) (ih q)
     go (index es) f ih q = later (ap is_good f) (ih q)
 
 -- ---- the whole
 
-links_told : (s : List ℕ) (r : Record) (x : Refusal) → header_of s ≡ Good r → ChunksGood s r → linked_book s r ≡ Refused x → Told s x
+links_told : (s : List ℕ) (r : Record) (x : Refusal) → header_of s ≡ Ok r → ChunksGood s r → linked_book s r ≡ Err x → Told s x
 unfolding linked_book
 links_told s r x h g = go (chain_ok (directory_of s r) (shape_of r)) refl (tree_ok (directory_of s r) (shape_of r)) refl
   where
-    number_is : (n : ℕ) → Refused (refusal_of n) ≡ Refused x → (x.number ≡ n) × (x.chunk ≡ no_chunk)
-    number_is n q = let y : refusal_of n ≡ x = cc in (sym (ap (λ (w : Refusal). w.number) y), sym (ap (λ (w : Refusal). w.chunk) y))
+    parts : (n : Rule) → ◌≡◌ {A = Result Record Refusal} (Err (refusal_of n)) (Err x) → (x.rule ≡ n) × (x.chunk ≡ None)
+    parts n q = let y : refusal_of n ≡ x = cc in (sym (ap (λ (w : Refusal). w.rule) y), sym (ap (λ (w : Refusal). w.chunk) y))
 
     go : (a : Bool) → chain_ok (directory_of s r) (shape_of r) ≡ a → (b : Bool) → tree_ok (directory_of s r) (shape_of r) ≡ b
-        → cond a (cond b (Book r) (Refused (refusal_of 14))) (Refused (refusal_of 13)) ≡ Refused x → Told s x
+        → cond a (cond b (Ok r) (Err (refusal_of BrokenTree))) (Err (refusal_of BrokenChain)) ≡ Err x → Told s x
     go true p true t q = absurd (let z : ◌≡◌ {A = ℕ} 0 1 = cc in omega arith)
-    go true p false t q = let n = number_is 14 q in tree r h g p t n.0 n.1
-    go false p b t q = let n = number_is 13 q in chain r h g p n.0 n.1
+    go true p false t q = let n = parts BrokenTree q in tree r h g p t n.0 n.1
+    go false p b t q = let n = parts BrokenChain q in chain r h g p n.0 n.1
 
-pub refusal_told : (s : List ℕ) (x : Refusal) → opened s ≡ Refused x → Told s x
+pub refusal_told : (s : List ℕ) (x : Refusal) → opened s ≡ Err x → Told s x
 unfolding opened
 refusal_told s x e = go (header_of s) refl e
   where
-    passed : (r : Record) → header_of s ≡ Good r → Passing (directory_of s r) r.count 0 x (linked_book s r) → Told s x
-    passed r h (stops a b q g) =
-        let t = chunk_table s r x.chunk x.number q in
-        chunk r h (omega arith) q (λ c l. g c (omega arith) l) (omega arith) (omega arith)
+    passed : (r : Record) → header_of s ≡ Ok r → Passing (directory_of s r) r.count 0 x (linked_book s r) → Told s x
+    passed r h (stops k y a b q g) =
+        let t = chunk_table s r k x.rule q in
+        chunk r k h y (omega arith) q (λ c l. g c (omega arith) l) (omega arith) (omega arith)
     passed r h (follows q g) = links_told s r x h (λ c l. g c (omega arith) (omega arith)) q
 
-    go : (y : CheckedHeader) → header_of s ≡ y → with_header y (λ r. chunks_then (directory_of s r) r.count 0 (linked_book s r)) ≡ Refused x → Told s x
-    go (Good r) h q = passed r h (passing (directory_of s r) r.count 0 x (linked_book s r) q)
-    go (CheckedHeader.Refused n) h q =
+    go : (y : Result Record Rule) → header_of s ≡ y → with_header y (λ r. chunks_then (directory_of s r) r.count 0 (linked_book s r)) ≡ Err x → Told s x
+    go (Ok r) h q = passed r h (passing (directory_of s r) r.count 0 x (linked_book s r) q)
+    go (Err n) h q =
         let y : refusal_of n ≡ x = cc in
-        let a : n ≡ x.number = ap (λ (w : Refusal). w.number) y in
-        let t = header_refused s n h in
-        head (h ∙ ap CheckedHeader.Refused a) (omega arith) (omega arith) (sym (ap (λ (w : Refusal). w.chunk) y))
+        let a : n ≡ x.rule = ap (λ (w : Refusal). w.rule) y in
+        let t = header_refused s x.rule (h ∙ ap Err a) in
+        head (h ∙ ap Err a) (omega arith) (omega arith) (sym (ap (λ (w : Refusal). w.chunk) y))

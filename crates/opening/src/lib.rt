@@ -13,26 +13,11 @@ ghost use Rattle.opening.specs.Opened.{chunks_then, linked_book, opened};
 ghost use Rattle.opening.specs.Passes.{GoodBook, surveyed, link_of, FirstHit, leaf_of, named_child, progress_of};
 
 use chunk::Chunk;
-use entries::{Item, Kind};
-use header::{CheckedHeader, Record};
-use quickref::Hit;
-use refusals::Refusal;
+use entries::{Kind, Place};
+use header::Record;
+use refusals::{Refusal, Rule};
 
-// The record of a book that keeps every rule, or the first refusal.
-#[derive(Clone, Copy)]
-pub enum Opened {
-    Book(Record),
-    Refused(Refusal),
-}
-
-// What the pass over all chunks found: the first refusal and its chunk, or the number of listing chunks.
-#[derive(Clone, Copy)]
-enum Survey {
-    Fault(u8, u32),
-    Listings(u64),
-}
-
-// What a chunk of the chain leads to.
+// What a chunk of the chain leads to. An option of an option would say less of the three.
 #[derive(Clone, Copy)]
 enum Link {
     Broken,
@@ -40,41 +25,23 @@ enum Link {
     Next(u64),
 }
 
-// How far the walk over the tree has come: the listing chunk that must come next, and how many index chunks are left.
-#[derive(Clone, Copy)]
-enum Progress {
-    Stopped,
-    Going(u64, u64),
-}
-
-// An entry of an index chunk: its child, which has the entry's name for its first, and the place behind the entry.
-#[derive(Clone, Copy)]
-enum NamedChild {
-    Named(u64, usize),
-    Other,
-}
-
-// The check of all chunks, from 0 on.
-fn survey_chunks(file: &[u8], book: Record) -> Survey
+// The check of all chunks, from 0 on: the first refusal, or the number of listing chunks.
+fn survey_chunks(file: &[u8], book: Record) -> Result<u64, Refusal>
     requires { book.count ≤ 4096 }
     ensures { result ≡ surveyed (directory_of file.now book) book.count 0 0 }
 {
-    let total = book.count;
     let mut listings: u64 = 0;
-    let mut c: u64 = 0;
-    while c < total {
-        let at = c;
-        c += 1;
-        match book::checked_chunk(file, book, at) {
-            Chunk::Refused(n) => return Survey::Fault(n, at as u32),
-            Chunk::Listing(_, _) => listings += 1,
-            Chunk::Index => {}
+    for c in 0..book.count {
+        match book::checked_chunk(file, book, c) {
+            Err(n) => return Err(refusals::refuse_at(n, c as u32)),
+            Ok(Chunk::Listing(_, _)) => listings += 1,
+            Ok(Chunk::Index) => {}
         }
     }
-    Survey::Listings(listings)
+    Ok(listings)
 }
 
-// Whether c is a listing chunk of a book whose chunks are good.
+// Whether c is a listing chunk of a book whose chunks are good. This and `is_index` stay two: each is the definition that its clause cites.
 fn is_listing(file: &[u8], book: Record, c: u64) -> bool
     requires { GoodBook file.now book }
     ensures { result ≡ listing_chunk (directory_of file.now book) (shape_of book) c }
@@ -103,7 +70,7 @@ fn is_index(file: &[u8], book: Record, c: u64) -> bool
 }
 
 // The first entry of a chunk of a good book.
-fn first_of(file: &[u8], book: Record, c: u64) -> Hit
+fn first_of(file: &[u8], book: Record, c: u64) -> Option<Place>
     requires { (GoodBook file.now book) × (c < book.count) }
     ensures { FirstHit file.now book c result }
 {
@@ -121,7 +88,7 @@ fn first_name(file: &[u8], book: Record, c: u64) -> &[u8]
     ensures { result.now ≡ first_name (directory_of file.now book c) }
 {
     let bytes = book::chunk_bytes(file, book, c);
-    let Hit::At(e) = first_of(file, book, c) else {
+    let Some(e) = first_of(file, book, c) else {
         return &file[0..0];
     };
     let start = e.start;
@@ -151,7 +118,7 @@ fn names_rise(file: &[u8], book: Record, c: u64, d: u64) -> bool
     ensures { result ≡ below (last_name (directory_of file.now book c)) (first_name (directory_of file.now book d)) }
 {
     let bytes = book::chunk_bytes(file, book, c);
-    let Hit::At(e) = quickref::last_entry(bytes, book::limits(file, book), Kind::Listing) else {
+    let Some(e) = quickref::last_entry(bytes, book::limits(file, book), Kind::Listing) else {
         return false;
     };
     let start = e.start;
@@ -215,75 +182,71 @@ fn chain_linked(file: &[u8], book: Record, listings: u64) -> bool
     false
 }
 
-// The listing chunk c, at level 1 of the tree.
-fn leaf(file: &[u8], book: Record, c: u64, left: u64) -> Progress
+// The listing chunk c, at level 1 of the tree: which listing chunk must come next, and how many index chunks are left.
+fn leaf(file: &[u8], book: Record, c: u64, left: u64) -> Option<(u64, u64)>
     requires { GoodBook file.now book }
     ensures { result ≡ leaf_of (directory_of file.now book) (shape_of book) c left }
 {
     if !is_listing(file, book, c) {
-        return Progress::Stopped;
+        return None;
     }
-    Progress::Going(
+    Some((
         chunk_fields::next_link(book::chunk_bytes(file, book, c)) as u64,
         left,
-    )
+    ))
 }
 
-// The entry of index chunk c at a place, with its child named as the entry says.
-fn named_child(file: &[u8], book: Record, c: u64, at: usize) -> NamedChild
+// The child of the entry of index chunk c at a place, if it is named as the entry says, and the place behind the entry.
+fn named_child(file: &[u8], book: Record, c: u64, at: usize) -> Option<(u64, usize)>
     requires { GoodBook file.now book }
     ensures { result ≡ named_child file.now book c at }
 {
     let bytes = book::chunk_bytes(file, book, c);
-    let Item::Good(x) = entries::item_at(bytes, book::limits(file, book), Kind::Index, at) else {
-        return NamedChild::Other;
-    };
+    let x = entries::item_at(bytes, book::limits(file, book), Kind::Index, at)?;
     let start = x.start;
     let len = x.len;
-    if is_named(file, book, x.child, &bytes[start..start + len]) {
-        NamedChild::Named(x.child, x.next)
-    } else {
-        NamedChild::Other
-    }
+    is_named(file, book, x.child, &bytes[start..start + len]).then_some((x.child, x.next))
 }
 
 // The walk over the tree under chunk c of a level, from left to right: the listing chunk `expected` must come next, and `left` index chunks are left.
-fn walk_tree(file: &[u8], book: Record, level: u64, c: u64, expected: u64, left: u64) -> Progress
+fn walk_tree(
+    file: &[u8],
+    book: Record,
+    level: u64,
+    c: u64,
+    expected: u64,
+    left: u64,
+) -> Option<(u64, u64)>
     requires { GoodBook file.now book }
     ensures { result ≡ progress_of (walk_tree (directory_of file.now book) (shape_of book) level c expected left) }
 {
     if level == 0 {
-        return Progress::Stopped;
+        return None;
     }
     if level == 1 {
         if c != expected {
-            return Progress::Stopped;
+            return None;
         }
         return leaf(file, book, c, left);
     }
     if left == 0 {
-        return Progress::Stopped;
+        return None;
     }
     if !is_index(file, book, c) {
-        return Progress::Stopped;
+        return None;
     }
     let mut at = chunk_fields::first_place(Kind::Index);
-    let mut rest = chunk_fields::entry_count(book::chunk_bytes(file, book, c));
+    let entries = chunk_fields::entry_count(book::chunk_bytes(file, book, c));
     let mut next = expected;
     let mut k = left - 1;
-    while 0 < rest {
-        let NamedChild::Named(child, behind) = named_child(file, book, c, at) else {
-            return Progress::Stopped;
-        };
-        let Progress::Going(e, l) = walk_tree(file, book, level - 1, child, next, k) else {
-            return Progress::Stopped;
-        };
+    for _ in 0..entries {
+        let (child, behind) = named_child(file, book, c, at)?;
+        let (e, l) = walk_tree(file, book, level - 1, child, next, k)?;
         next = e;
         k = l;
         at = behind;
-        rest -= 1;
     }
-    Progress::Going(next, k)
+    Some((next, k))
 }
 
 // Whether the tree is right, with so many index chunks in it.
@@ -299,8 +262,8 @@ fn tree_right(file: &[u8], book: Record, indexes: u64) -> bool
         book.first,
         indexes,
     ) {
-        Progress::Stopped => false,
-        Progress::Going(expected, left) => {
+        None => false,
+        Some((expected, left)) => {
             if expected == refusals::no_chunk() as u64 {
                 left == 0
             } else {
@@ -311,36 +274,33 @@ fn tree_right(file: &[u8], book: Record, indexes: u64) -> bool
 }
 
 // Chain and tree of a book whose chunks are good, with so many listing chunks.
-fn open_links(file: &[u8], book: Record, listings: u64) -> Opened
+fn open_links(file: &[u8], book: Record, listings: u64) -> Result<Record, Refusal>
     requires { (GoodBook file.now book) × (listings ≡ listings_of (directory_of file.now book) (shape_of book)) }
     ensures { result ≡ linked_book file.now book }
 {
     if !chain_linked(file, book, listings) {
-        return Opened::Refused(refusals::refuse(13));
+        return Err(refusals::refuse(Rule::BrokenChain));
     }
     if !tree_right(file, book, book.count - listings) {
-        return Opened::Refused(refusals::refuse(14));
+        return Err(refusals::refuse(Rule::BrokenTree));
     }
-    Opened::Book(book)
+    Ok(book)
 }
 
 // The chunks of a book whose head is good, then its links.
-fn open_chunks(file: &[u8], book: Record) -> Opened
+fn open_chunks(file: &[u8], book: Record) -> Result<Record, Refusal>
     requires { book.count ≤ 4096 }
     ensures { result ≡ chunks_then (directory_of file.now book) book.count 0 (linked_book file.now book) }
 {
-    match survey_chunks(file, book) {
-        Survey::Fault(number, chunk) => Opened::Refused(refusals::refuse_at(number, chunk)),
-        Survey::Listings(n) => open_links(file, book, n),
-    }
+    let listings = survey_chunks(file, book)?;
+    open_links(file, book, listings)
 }
 
-// Opens a book.
-pub fn open(file: &[u8]) -> Opened
+// Opens a book: the record of one that keeps every rule, or the first refusal.
+#[tactic(auto, unfolding(crate::specs::Opened::opened))]
+pub fn open(file: &[u8]) -> Result<Record, Refusal>
     ensures { result ≡ opened file.now }
 {
-    match header::read(file) {
-        CheckedHeader::Good(book) => open_chunks(file, book),
-        CheckedHeader::Refused(number) => Opened::Refused(refusals::refuse(number)),
-    }
+    let book = header::read(file)?;
+    open_chunks(file, book)
 }

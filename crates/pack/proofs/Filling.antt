@@ -1,8 +1,6 @@
 -- What one chunk takes of the entries from a cursor on: as a whole (`extent_is`), and entry by entry as a loop finds it (`fitted`, `full`).
-use Rattle.fields.proofs.Base.{◌≡◌, refl, sym, ap, subst, ◌∙◌, Bool, true, false, cond, List, [], ◌∷◌, ℕ, suc, ◌+◌, ◌-◌, ◌*◌, ◌≤◌, ◌<◌, arith, add-zero, dec_le, length, take, leb-true, lt-leb}
+use Rattle.fields.proofs.Base.{◌≡◌, refl, sym, ap, subst, ◌∙◌, Bool, true, false, cond, List, [], ◌∷◌, ℕ, suc, ◌+◌, ◌-◌, ◌*◌, ◌≤◌, ◌<◌, arith, add-zero, dec_le, length, take, leb-true, lt-leb, Option, Some, None, none-some, cond_some}
 use Rattle.entries.specs.declared.Place.{Place}
-use Rattle.entries.specs.declared.Item.{Item}
-use Rattle.entries.specs.declared.Item.TheVariants.{Good}
 use Rattle.entries.specs.declared.Kind.{Kind}
 use Rattle.chunk_fields.specs.ChunkFields.{first_place, quick_count}
 use Rattle.source.specs.Source.{item_from, end_of, rows_from}
@@ -11,7 +9,6 @@ use Rattle.source.proofs.Rows.{row_of, run_none, run_spent, run_more}
 use Rattle.pack.specs.Groups.{fits, taken}
 use Rattle.pack.specs.Fill.{row_size, fit_of, extent_from}
 use Rattle.pack.specs.declared.Extent.{Extent}
-use Rattle.pack.specs.declared.Fit.TheVariants.{Entry, Full}
 use Rattle.pack.proofs.Groups.{sizes}
 use Rattle.pack.proofs.Sizes.{row_long}
 
@@ -55,59 +52,55 @@ fits_small k n c b h = leb-true _ _ h
 
 -- ---- the entry that is next: c entries of b bytes are taken, and the cursor is at a place
 
-pub fit_over : (k : Kind) (n c b : ℕ) (es : List Place) → 4096 < b → fit_of k n c b es ≡ Full
+pub fit_over : (k : Kind) (n c b : ℕ) (es : List Place) → 4096 < b → fit_of k n c b es ≡ None
 unfolding fit_of
 fit_over k n c b [] h = refl
 fit_over k n c b (e ∷ es) h =
     let l : 4096 < first_place k + (b + row_size k e) + (2 * quick_count n (c + 1) + 2) = omega arith in
     rw (lt-leb (first_place k + (b + row_size k e) + (2 * quick_count n (c + 1) + 2)) 4096 l)
 
-chosen : (t : Bool) (x e : Place) (y m : ℕ) → cond t (Entry x y) Full ≡ Entry e m → (t ≡ true) × (x ≡ e) × (y ≡ m)
-chosen true x e y m q = (refl, (cc), (cc))
-chosen false x e y m q = absurd (let z : ◌≡◌ {A = ℕ} 0 1 = cc in omega arith)
-
-left_out : (t : Bool) (x : Place) (y : ℕ) → cond t (Entry x y) Full ≡ Full → t ≡ false
-left_out true x y q = absurd (let z : ◌≡◌ {A = ℕ} 0 1 = cc in omega arith)
+left_out : (t : Bool) (x : Place) (y : ℕ) → ◌≡◌ {A = Option (Place × ℕ)} (cond t (Some (x, y)) None) None → t ≡ false
+left_out true x y q = absurd (none-some (x, y) (sym q))
 left_out false x y q = refl
 
 module _ (content : ℕ) (s starts : List ℕ) (k : Kind) (n c b left at : ℕ) where
   abbrev rows : ℕ → ℕ → List Place
   rows l p = rows_from content s starts k l p
 
-  abbrev item : Item
+  abbrev item : Option Place
   item = item_from content s starts k at
 
   -- there is none
-  pub fit_none : rows left at ≡ [] → fit_of k n c b (rows left at) ≡ Full
+  pub fit_none : rows left at ≡ [] → fit_of k n c b (rows left at) ≡ None
   unfolding fit_of
   fit_none q = rw q
 
-  fit_is : (e : Place) → 0 < left → item ≡ Good e → fit_of k n c b (rows left at) ≡ cond (fits k n (c + 1) (b + row_size k e)) (Entry e (b + row_size k e)) Full
+  fit_is : (e : Place) → 0 < left → item ≡ Some e → fit_of k n c b (rows left at) ≡ cond (fits k n (c + 1) (b + row_size k e)) (Some (e, b + row_size k e)) None
   unfolding fit_of
   fit_is e l q = rw (run_more (item_from content s starts k) left at e l q)
 
   -- by a call that measures it, and one that tests whether it fits
-  module _ (e : Place) (l : 0 < left) (q : item ≡ Good e) (size : ℕ) (z : size ≡ row_size k e) (t : Bool) (f : t ≡ fits k n (c + 1) (b + size)) where
-    choice : fit_of k n c b (rows left at) ≡ cond t (Entry e (b + size)) Full
-    choice = fit_is e l q ∙ ap (λ (y : ℕ). cond (fits k n (c + 1) (b + y)) (Entry e (b + y)) Full) (sym z) ∙ ap (λ (u : Bool). cond u (Entry e (b + size)) Full) (sym f)
+  module _ (e : Place) (l : 0 < left) (q : item ≡ Some e) (size : ℕ) (z : size ≡ row_size k e) (t : Bool) (f : t ≡ fits k n (c + 1) (b + size)) where
+    choice : fit_of k n c b (rows left at) ≡ cond t (Some (e, b + size)) None
+    choice = fit_is e l q ∙ ap (λ (y : ℕ). cond (fits k n (c + 1) (b + y)) (Some (e, b + y)) None) (sym z) ∙ ap (λ (u : Bool). cond u (Some (e, b + size)) None) (sym f)
 
-    pub fit_taken : t ≡ true → Entry e (b + size) ≡ fit_of k n c b (rows left at)
-    fit_taken h = sym (choice ∙ ap (λ (u : Bool). cond u (Entry e (b + size)) Full) h)
+    pub fit_taken : t ≡ true → Some (e, b + size) ≡ fit_of k n c b (rows left at)
+    fit_taken h = sym (choice ∙ ap (λ (u : Bool). cond u (Some (e, b + size)) None) h)
 
-    pub fit_left : t ≡ false → Full ≡ fit_of k n c b (rows left at)
-    fit_left h = sym (choice ∙ ap (λ (u : Bool). cond u (Entry e (b + size)) Full) h)
+    pub fit_left : t ≡ false → None ≡ fit_of k n c b (rows left at)
+    fit_left h = sym (choice ∙ ap (λ (u : Bool). cond u (Some (e, b + size)) None) h)
 
   -- it is e, and with it there are m bytes
   pub record Fitted (e : Place) (m : ℕ) : Type 0 where
     pub some : 0 < left
-    pub here : item ≡ Good e
+    pub here : item ≡ Some e
     pub bytes : m ≡ b + row_size k e
     pub more : b < m
     pub room : first_place k + m + (2 * quick_count n (c + 1) + 2) ≤ 4096
     pub inside : e.start + e.len ≤ length s
     pub turn : extent_from k n (c + 1) m e.next (left - 1) (rows (left - 1) e.next) ≡ extent_from k n c b at left (rows left at)
 
-  fitted_as : (e : Place) → 0 < left → item ≡ Good e → fits k n (c + 1) (b + row_size k e) ≡ true → Fitted e (b + row_size k e)
+  fitted_as : (e : Place) → 0 < left → item ≡ Some e → fits k n (c + 1) (b + row_size k e) ≡ true → Fitted e (b + row_size k e)
   fitted_as e l q f =
       let r = row_of content s starts k at e q in
       record {
@@ -121,23 +114,23 @@ module _ (content : ℕ) (s starts : List ℕ) (k : Kind) (n c b left at : ℕ) 
       }
 
   -- by whether there is one
-  on_next : {P : Type 0} → (rows left at ≡ [] → P) → ((e : Place) → 0 < left → item ≡ Good e → P) → P
+  on_next : {P : Type 0} → (rows left at ≡ [] → P) → ((e : Place) → 0 < left → item ≡ Some e → P) → P
   on_next f g =
       elim (dec_le left 0) [
         | yes h ↦ f (run_spent (item_from content s starts k) left at h)
         | no h ↦ on_item item (λ q. f (run_none (item_from content s starts k) left at q)) (λ e q. g e (omega arith) q)
       ]
 
-  pub fitted : (e : Place) (m : ℕ) → fit_of k n c b (rows left at) ≡ Entry e m → Fitted e m
+  pub fitted : (e : Place) (m : ℕ) → fit_of k n c b (rows left at) ≡ Some (e, m) → Fitted e m
   fitted e m h =
       on_next
-      (λ q. let z : Full ≡ Entry e m = sym (fit_none q) ∙ h in absurd (let z : ◌≡◌ {A = ℕ} 0 1 = cc in omega arith))
+      (λ q. absurd (none-some (e, m) (sym (fit_none q) ∙ h)))
       (λ x l q.
-      let p = chosen (fits k n (c + 1) (b + row_size k x)) x e (b + row_size k x) m (sym (fit_is x l q) ∙ h) in
-      subst (λ (y : ℕ). Fitted e y) p.2 (subst (λ (y : Place). Fitted y (b + row_size k x)) p.1 (fitted_as x l q p.0)))
+      let t = cond_some (fits k n (c + 1) (b + row_size k x)) (x, b + row_size k x) (e, m) (sym (fit_is x l q) ∙ h) in
+      subst (λ (y : Place × ℕ). Fitted y.0 y.1) t.1 (fitted_as x l q t.0))
 
   -- there is none
-  pub full : fit_of k n c b (rows left at) ≡ Full → extent_from k n c b at left (rows left at) ≡ record { count = c; bytes = b; at = at; left = left }
+  pub full : fit_of k n c b (rows left at) ≡ None → extent_from k n c b at left (rows left at) ≡ record { count = c; bytes = b; at = at; left = left }
   full h =
       on_next
       (λ q. extent_none k n c b at left (rows left at) q)

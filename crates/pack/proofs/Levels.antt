@@ -1,14 +1,11 @@
 -- Levels: one chunk after another as a loop finds them (`chunks_more`), what they hold (`chunks_given`, `chunks_children`), and the places of
 -- their first names (`starts_of`).
-use Rattle.fields.proofs.Base.{◌≡◌, refl, sym, ap, ap₂, subst, ◌∙◌, List, [], ◌∷◌, ◌++◌, map, ℕ, zero, suc, ◌+◌, ◌-◌, ◌<◌, arith, zero-add, length, take, drop, get_or, length-append, lt-ltb}
+use Rattle.fields.proofs.Base.{◌≡◌, refl, sym, ap, ap₂, subst, ◌∙◌, List, [], ◌∷◌, ◌++◌, map, ℕ, zero, suc, ◌+◌, ◌-◌, ◌<◌, arith, zero-add, length, take, drop, get_or, length-append, lt-ltb, Option, Some, None}
 use lib.Seq.{append_snoc, get_or-append_seam}
 use Rattle.fields.specs.Part.{part}
 use Rattle.fields.proofs.Parts.{length_part}
-use Rattle.encint.specs.declared.Number.{Number}
-use Rattle.encint.specs.declared.Number.TheVariants.{Value, Bad}
 use Rattle.entries.specs.Entry.{with_number, name_at}
 use Rattle.entries.specs.declared.Place.{Place}
-use Rattle.entries.specs.declared.Item.TheVariants.{Good}
 use Rattle.entries.specs.declared.Kind.{Kind}
 use Rattle.entries.specs.declared.Kind.TheVariants.{Listing, Index}
 use Rattle.entries.specs.Stored.{Stored, stored_of}
@@ -49,7 +46,7 @@ module _ (content : ℕ) (s starts : List ℕ) (k : Kind) (n left at : ℕ) wher
     pub first : first_at (take f.count rows) ≡ e.at
     pub less : f.left < left
 
-  pub chunks_more : (e : Place) (f : Extent) → 0 < left → item_from content s starts k at ≡ Good e → f ≡ extent_from k n 0 0 at left rows → FirstChunk e f
+  pub chunks_more : (e : Place) (f : Extent) → 0 < left → item_from content s starts k at ≡ Some e → f ≡ extent_from k n 0 0 at left rows → FirstChunk e f
   unfolding chunks_from
   chunks_more e f l q is =
       let m = taken (row_size k) (fits k n) 0 0 rows in
@@ -87,14 +84,14 @@ chunks_given content s starts n = chunks_level content s starts Listing n (lengt
 
 -- an index level: one entry for each chunk whose first name is known
 
-name_there : (s : List ℕ) (p : ℕ) → 0 < length (name_from s p) → (len : ℕ) × (start : ℕ) × (name_at s p ≡ Value len start) × (name_from s p ≡ part s start len)
+name_there : (s : List ℕ) (p : ℕ) → 0 < length (name_from s p) → (len : ℕ) × (start : ℕ) × (name_at s p ≡ Some (len, start)) × (name_from s p ≡ part s start len)
 unfolding name_from
 name_there s p h = go (name_at s p) refl h
   where
-    go : (r : Number) → name_at s p ≡ r → 0 < length (with_number r [] (λ len start. part s start len))
-        → (len : ℕ) × (start : ℕ) × (name_at s p ≡ Value len start) × (with_number r [] (λ len start. part s start len) ≡ part s start len)
-    go Bad e h = absurd (omega arith)
-    go (Value len start) e h = (len, start, e, refl)
+    go : (r : Option (ℕ × ℕ)) → name_at s p ≡ r → 0 < length (with_number r [] (λ len start. part s start len))
+        → (len : ℕ) × (start : ℕ) × (name_at s p ≡ Some (len, start)) × (with_number r [] (λ len start. part s start len) ≡ part s start len)
+    go None e h = absurd (omega arith)
+    go (Some (len, start)) e h = (len, start, e, refl)
 
 children : (content : ℕ) (s front ps : List ℕ) (gs : List (List Stored)) → Starts s ps gs
     → map (stored_of s) (rows_from content s (front ++ ps) Index (length ps) (length front)) ≡ children_of (length front) gs
@@ -109,7 +106,7 @@ children content s front (p ∷ ps) (g ∷ gs) (Starts.more e some rest) =
     let t = name_there s p (subst (λ (y : List ℕ). 0 < length y) (sym e) some) in
     let row : Place = record { at = get_or starts c 0; start = t.1; len = t.0; section = 0; offset = 0; size = 0; child = c; next = c + 1 } in
     let v : get_or starts c 0 ≡ p = get_or-append_seam front p ps 0 in
-    let q : item_from content s starts Index c ≡ Good row = rw (lt-ltb c (length starts) l, v, t.2) in
+    let q : item_from content s starts Index c ≡ Some row = rw (lt-ltb c (length starts) l, v, t.2) in
     let snoc : starts ≡ (front ++ (p ∷ [])) ++ ps = sym (append_snoc front p ps) in
     let n : c + 1 ≡ length (front ++ (p ∷ [])) = sym (length-append front (p ∷ [])) in
     let z : length (p ∷ ps) - 1 ≡ length ps = omega arith in

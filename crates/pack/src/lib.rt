@@ -7,7 +7,7 @@ ghost use Rattle.source.specs.Source.{rows_from};
 ghost use Rattle.pack.specs.Groups.{fits as fits_in};
 ghost use Rattle.pack.specs.Fill.{size_of, fit_of, extent_from};
 
-use entries::{Item, Kind, Place};
+use entries::{Kind, Place};
 use source::Cursor;
 
 // The entries that a chunk takes: how many there are, the bytes that they take, and the cursor behind them: its place, and how many more may be taken.
@@ -17,13 +17,6 @@ pub struct Extent {
     pub bytes: usize,
     pub at: usize,
     pub left: usize,
-}
-
-// The entry that a chunk takes next, with the bytes of its entries up to this one; or it is full: the next does not fit, or there is none.
-#[derive(Clone, Copy)]
-pub enum Fit {
-    Entry(Place, usize),
-    Full,
 }
 
 // How many quick words stand in a chunk of `count` entries and one more: one for each n but the first; none for n = 0.
@@ -66,7 +59,7 @@ pub fn entry_size(kind: Kind, e: Place) -> usize
     }
 }
 
-// The next entry of a chunk that has taken so much, if it fits.
+// The next entry of a chunk that has taken so much, if there is one and it fits, with the bytes of the chunk's entries up to this one.
 pub fn next_fit(
     input: &[u8],
     starts: &[usize],
@@ -74,25 +67,23 @@ pub fn next_fit(
     kind: Kind,
     n: usize,
     f: Extent,
-) -> Fit
+) -> Option<(Place, usize)>
     ensures { result ≡ fit_of kind n f.count f.bytes (rows_from content input.now starts.now kind f.left f.at) }
 {
     if 4096 < f.bytes {
-        return Fit::Full;
+        return None;
     }
     let c = Cursor {
         kind,
         at: f.at,
         left: f.left,
     };
-    let Item::Good(e) = source::step(input, starts, content, c) else {
-        return Fit::Full;
-    };
+    let e = source::step(input, starts, content, c)?;
     let bytes = f.bytes + entry_size(kind, e);
     if fits_chunk(kind, n, f.count, bytes) {
-        return Fit::Entry(e, bytes);
+        return Some((e, bytes));
     }
-    Fit::Full
+    None
 }
 
 // The entries from a cursor on that go into one chunk: as many as fit.
@@ -107,7 +98,7 @@ pub fn fill(input: &[u8], starts: &[usize], content: u64, from: Cursor, n: usize
         left: from.left,
     };
     loop {
-        let Fit::Entry(e, bytes) = next_fit(input, starts, content, kind, n, f) else {
+        let Some((e, bytes)) = next_fit(input, starts, content, kind, n, f) else {
             return f;
         };
         f = Extent {

@@ -1,9 +1,8 @@
 -- A page as it is written: the numbers of the entries that are left make the whole.
-use Rattle.fields.proofs.Base.{◌≡◌, refl, sym, ap, ◌∙◌, true, List, [], ◌∷◌, ◌++◌, map, flat_map, ℕ, suc, ◌+◌, ◌-◌, ◌*◌, ◌≤◌, ◌<◌, arith, length, drop, set, drop_of_length-le, sets, length-sets}
+use Rattle.fields.proofs.Base.{◌≡◌, refl, sym, ap, ◌∙◌, true, List, [], ◌∷◌, ◌++◌, map, flat_map, ℕ, suc, ◌+◌, ◌-◌, ◌*◌, ◌≤◌, ◌<◌, arith, length, drop, set, drop_of_length-le, sets, length-sets, Some, None}
 use Rattle.put.proofs.Put.{sets_after}
 use Rattle.entries.specs.Entry.{item_at, Entry}
 use Rattle.entries.specs.declared.Place.{Place}
-use Rattle.entries.specs.declared.Item.TheVariants.{Good, Bad}
 use Rattle.entries.specs.declared.Kind.TheVariants.{Listing}
 use Rattle.chunk.specs.Chunk.{all, entries_at, entries_in}
 use Rattle.chunk_fields.specs.ChunkFields.{first_place, entry_count, tail_length}
@@ -45,20 +44,20 @@ module _ (s : List ℕ) (book : Record) (c : ℕ) where
     left_start t = record { low = omega arith; size = refl; read = entries_left s book c is; whole = refl }
 
     -- an entry is there
-    pub left_there : (t₀ t : List ℕ) (at i : ℕ) → Left t₀ t at i → i < entry_count bytes → item_at (limits_of s book) Listing bytes at ≡ Bad → ⊥
+    pub left_there : (t₀ t : List ℕ) (at i : ℕ) → Left t₀ t at i → i < entry_count bytes → item_at (limits_of s book) Listing bytes at ≡ None → ⊥
     left_there t₀ t at i h l b =
         let m = left_more (limits_of s book) bytes (4096 - tail_length bytes) (entry_count bytes) i at es l h.read in
-        let q : Bad ≡ Good m.0 = sym b ∙ m.1 in
+        let q : None ≡ Some m.0 = sym b ∙ m.1 in
         let z : ◌≡◌ {A = ℕ} 0 1 = cc in
         omega arith
 
     -- a turn writes the numbers of entry i
-    pub left_turn : (t₀ t u : List ℕ) (at i : ℕ) (e : Place) → Left t₀ t at i → i < entry_count bytes → item_at (limits_of s book) Listing bytes at ≡ Good e
+    pub left_turn : (t₀ t u : List ℕ) (at i : ℕ) (e : Place) → Left t₀ t at i → i < entry_count bytes → item_at (limits_of s book) Listing bytes at ≡ Some e
         → u ≡ sets t (5 * i) (five_of (report_at s book c e)) → Left t₀ u e.next (i + 1)
     unfolding numbers_of flat_map
     left_turn t₀ t u at i e h l g q =
         let m = left_more (limits_of s book) bytes (4096 - tail_length bytes) (entry_count bytes) i at es l h.read in
-        let p : m.0 ≡ e = (let z : Good m.0 ≡ Good e = sym m.1 ∙ g in cc) in
+        let p : m.0 ≡ e = (let z : Some m.0 ≡ Some e = sym m.1 ∙ g in cc) in
         let five = five_of (report_at s book c e) in
         let rest = numbers_of (map (report_of book c) (drop (i + 1) es)) in
         let f : five ++ rest ≡ numbers_of (map (report_of book c) (drop i es)) =

@@ -1,5 +1,5 @@
 -- A page: all entries of one chunk at once, and what it has to do with the steps in that chunk (FORMAT K7, K12, K13).
-use Rattle.std.specs.Prelude.{ℕ, ◌*◌, ◌<◌, ◌≡◌, Bool, cond, ◌&&◌, length, leb}
+use Rattle.std.specs.Prelude.{ℕ, ◌*◌, ◌<◌, ◌≡◌, Bool, cond, ◌&&◌, length, leb, Result, Ok, Err}
 use mathlib.Core.List.{List, [], ◌∷◌, flat_map}
 use Rattle.std.proofs.lemmas.List.Edits.{sets}
 use Rattle.refusals.specs.Refusals.{refusal_of}
@@ -11,7 +11,9 @@ use Rattle.report.specs.declared.Report.{Report}
 use Rattle.listing.specs.Listing.{can_list, reports_in, cursor_at}
 use Rattle.listing.specs.Whole.{steps_from, cursor_after}
 use Rattle.page.specs.declared.Page.{Page}
-use Rattle.page.specs.declared.Page.TheVariants.{Entries, Short, Refused}
+use Rattle.page.specs.declared.Page.TheVariants.{Entries, Short}
+use Rattle.refusals.specs.declared.Rule.TheVariants.{BadRecord}
+use Rattle.refusals.specs.declared.Refusal.{Refusal}
 
 -- the five numbers of a report in their order (K6, K7)
 abbrev pub five_of : Report → List ℕ
@@ -27,11 +29,11 @@ module _ (s : List ℕ) (book : Record) (c : ℕ) where
   has_room n = leb (5 * length (entries_in (directory_of s book c))) n
 
   -- the answer for a slice of n places: the count of the entries, and the chunk's next as stored
-  unfoldable pub page_of : ℕ → Page
+  unfoldable pub page_of : ℕ → Result Page Refusal
   page_of n =
       cond (can_list s book c)
-      (cond (has_room n) (Entries (length (entries_in (directory_of s book c))) (next_of (directory_of s book c))) Short)
-      (Refused (refusal_of 17))
+      (cond (has_room n) (Ok (Entries (length (entries_in (directory_of s book c))) (next_of (directory_of s book c)))) (Ok Short))
+      (Err (refusal_of BadRecord))
 
   -- the slice t with the entries' numbers from place 0 on; t itself where they are refused (RO8) or have no room
   unfoldable pub page_in : List ℕ → List ℕ

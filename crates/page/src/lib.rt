@@ -10,17 +10,16 @@ ghost use Rattle.listing.specs.Listing.{reports_in};
 ghost use Rattle.page.specs.Page.{five_of, numbers_of, page_of, page_in};
 
 use chunk::Chunk;
-use entries::{Item, Kind};
+use entries::Kind;
 use header::Record;
-use refusals::Refusal;
+use refusals::{Refusal, Rule};
 use report::Report;
 
-// What a page gives: how many entries it has and the chunk that follows; or that the lent slice is too short; or a refusal.
+// What a page gives: how many entries it has and the chunk that follows; or that the lent slice is too short.
 #[derive(Clone, Copy)]
 pub enum Page {
     Entries(u32, u32),
     Short,
-    Refused(Refusal),
 }
 
 // Writes the five numbers of a report from `at` on.
@@ -45,34 +44,32 @@ fn put_reports(file: &[u8], book: Record, chunk: u64, out: &mut [u64])
     let limits = book::limits(file, book);
     let total = chunk_fields::entry_count(c) as usize;
     let mut at = chunk_fields::first_place(Kind::Listing);
-    let mut i: usize = 0;
-    while i < total {
-        let Item::Good(e) = entries::listing_at(c, at, limits.content) else {
+    for i in 0..total {
+        let Some(e) = entries::listing_at(c, at, limits.content) else {
             return;
         };
         put_report(out, 5 * i, report::report_of(file, book, chunk, e));
         at = e.next;
-        i += 1;
     }
 }
 
 // The entries of one listing chunk: their numbers, five an entry, from the front of `out` on, their count, and the chunk that follows.
-pub fn chunk_page(file: &[u8], book: Record, chunk: u64, out: &mut [u64]) -> Page
+pub fn chunk_page(file: &[u8], book: Record, chunk: u64, out: &mut [u64]) -> Result<Page, Refusal>
     ensures answer { result ≡ page_of file.now book chunk (length out.old) }
     ensures written { out.new ≡ page_in file.now book chunk out.old }
 {
     if !book::record_fits(file, book) {
-        return Page::Refused(refusals::refuse(17));
+        return Err(refusals::refuse(Rule::BadRecord));
     }
     let next = match book::checked_chunk(file, book, chunk) {
-        Chunk::Listing(_, next) => next,
-        Chunk::Index => return Page::Refused(refusals::refuse(17)),
-        Chunk::Refused(_) => return Page::Refused(refusals::refuse(17)),
+        Ok(Chunk::Listing(_, next)) => next,
+        Ok(Chunk::Index) => return Err(refusals::refuse(Rule::BadRecord)),
+        Err(_) => return Err(refusals::refuse(Rule::BadRecord)),
     };
     let total = chunk_fields::entry_count(book::chunk_bytes(file, book, chunk)) as u32;
     if out.len() < 5 * (total as usize) {
-        return Page::Short;
+        return Ok(Page::Short);
     }
     put_reports(file, book, chunk, out);
-    Page::Entries(total, next)
+    Ok(Page::Entries(total, next))
 }

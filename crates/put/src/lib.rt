@@ -13,11 +13,9 @@ fn write_number(out: &mut [u8], at: usize, v: u64, k: usize)
     ensures { out.new ≡ sets out.old at (bytes k v) }
 {
     let mut x = v;
-    let mut i = 0;
-    while i < k {
+    for i in 0..k {
         out[at + i] = (x % 256) as u8;
         x = x / 256;
-        i += 1;
     }
 }
 
@@ -36,6 +34,7 @@ fn put_number(out: &mut [u8], at: usize, v: u64, k: usize) -> bool
     true
 }
 
+// One function for each width, since each takes a type of its own; what they share is `put_number`.
 pub fn put16(out: &mut [u8], at: usize, v: u16) -> bool
     ensures answer { result ≡ inside out.old at 2 }
     ensures written { out.new ≡ put out.old at (bytes 2 v) }

@@ -4,13 +4,7 @@
 ghost use Rattle.std.specs.Prelude.{◌≡◌};
 ghost use Rattle.quickref.specs.Quickref.{group_at, after_at, nth_in, first_in, last_in};
 
-use entries::{Item, Kind, Limits, Place};
-
-#[derive(Clone, Copy)]
-pub enum Hit {
-    At(Place),
-    Nothing,
-}
+use entries::{Kind, Limits, Place};
 
 // Where the entry stands that quick word g is for; the first entry for 0.
 fn group_at(c: &[u8], kind: Kind, g: usize) -> usize
@@ -24,50 +18,42 @@ fn group_at(c: &[u8], kind: Kind, g: usize) -> usize
 }
 
 // The entry behind `past` others, the first of which stands at `from`.
-fn entry_behind(c: &[u8], limits: Limits, kind: Kind, past: usize, from: usize) -> Hit
+fn entry_behind(c: &[u8], limits: Limits, kind: Kind, past: usize, from: usize) -> Option<Place>
     ensures { result ≡ after_at limits kind c.now past from }
 {
     let mut at = from;
-    let mut left = past;
-    while 0 < left {
-        let Item::Good(e) = entries::item_at(c, limits, kind, at) else {
-            return Hit::Nothing;
-        };
-        at = e.next;
-        left -= 1;
+    for _ in 0..past {
+        at = entries::item_at(c, limits, kind, at)?.next;
     }
-    match entries::item_at(c, limits, kind, at) {
-        Item::Good(e) => Hit::At(e),
-        Item::Bad => Hit::Nothing,
-    }
+    entries::item_at(c, limits, kind, at)
 }
 
 // Entry i of a chunk.
-pub fn nth_entry(c: &[u8], limits: Limits, kind: Kind, i: usize) -> Hit
+pub fn nth_entry(c: &[u8], limits: Limits, kind: Kind, i: usize) -> Option<Place>
     ensures { result ≡ nth_in limits kind c.now i }
 {
     let total = chunk_fields::entry_count(c) as usize;
     if total <= i {
-        return Hit::Nothing;
+        return None;
     }
     let n = chunk_fields::spacing(limits.density);
     entry_behind(c, limits, kind, i % n, group_at(c, kind, i / n))
 }
 
 // The first entry of a chunk.
-pub fn first_entry(c: &[u8], limits: Limits, kind: Kind) -> Hit
+pub fn first_entry(c: &[u8], limits: Limits, kind: Kind) -> Option<Place>
     ensures { result ≡ first_in limits kind c.now }
 {
     nth_entry(c, limits, kind, 0)
 }
 
 // The last entry of a chunk.
-pub fn last_entry(c: &[u8], limits: Limits, kind: Kind) -> Hit
+pub fn last_entry(c: &[u8], limits: Limits, kind: Kind) -> Option<Place>
     ensures { result ≡ last_in limits kind c.now }
 {
     let total = chunk_fields::entry_count(c) as usize;
     if total < 1 {
-        return Hit::Nothing;
+        return None;
     }
     nth_entry(c, limits, kind, total - 1)
 }

@@ -1,19 +1,17 @@
 -- What was read in a chunk that has its bytes is reported as its entry says; the own bytes of an entry are its name and the numbers that are reported.
-use Rattle.fields.proofs.Base.{◌≡◌, sym, ap, ◌∙◌, true, List, ℕ, ◌+◌, ◌-◌, ◌≤◌, ◌<◌, arith, length, get_or, le-leb}
+use Rattle.fields.proofs.Base.{◌≡◌, sym, ap, ◌∙◌, true, List, ℕ, ◌+◌, ◌-◌, ◌≤◌, ◌<◌, arith, length, get_or, le-leb, Some, None}
 use Rattle.fields.specs.Part.{part, part_of}
 use Rattle.fields.proofs.Parts.{length_part}
 use Rattle.encint.specs.Encint.{encoded}
 use Rattle.entries.specs.Entry.{item_at, name_of, Entry, entry_of}
 use Rattle.entries.specs.declared.Limits.{Limits}
 use Rattle.entries.specs.declared.Place.{Place}
-use Rattle.entries.specs.declared.Item.TheVariants.{Good}
 use Rattle.entries.proofs.Laws.{item_inside}
 use Rattle.entries.proofs.Padded.{entry_stands}
 use Rattle.entries.specs.declared.Kind.TheVariants.{Listing}
 use Rattle.chunk.specs.Chunk.{entries_in}
 use Rattle.chunk_fields.specs.ChunkFields.{entry_count}
 use Rattle.quickref.specs.Quickref.{absent, found, nth, sought_of, nth_in}
-use Rattle.quickref.specs.declared.Hit.TheVariants.{At, Nothing}
 use Rattle.quickref.proofs.Steps.{nth_read}
 use Rattle.quickref.proofs.Good.{nth_good}
 use Rattle.header.specs.declared.Record.{Record}
@@ -50,13 +48,13 @@ module _ (s : List ℕ) (book : Record) (c : ℕ) (is : is_listing (directory_of
   es = entries_in (directory_of s book c)
 
   -- what was read is reported as its entry says
-  pub read_reported : (at : ℕ) (e : Place) → item_at limits Listing bytes at ≡ Good e → report_at s book c e ≡ report_of book c (entry_of bytes e)
+  pub read_reported : (at : ℕ) (e : Place) → item_at limits Listing bytes at ≡ Some e → report_at s book c e ≡ report_of book c (entry_of bytes e)
   read_reported at e h =
       let z = chunk_whole s book c Listing is in
       let i = (item_inside limits Listing bytes at e h).name in
       report_entry s book c e (chunk_whole s book c Listing is) (omega arith)
 
-  pub read_owned : (at : ℕ) (e : Place) → item_at limits Listing bytes at ≡ Good e → own_at s book c e ≡ own_of book c (entry_of bytes e)
+  pub read_owned : (at : ℕ) (e : Place) → item_at limits Listing bytes at ≡ Some e → own_at s book c e ≡ own_of book c (entry_of bytes e)
   read_owned at e h =
       let z = chunk_whole s book c Listing is in
       let i = item_inside limits Listing bytes at e h in
@@ -66,19 +64,19 @@ module _ (s : List ℕ) (book : Record) (c : ℕ) (is : is_listing (directory_of
       own_entry s book c e (chunk_whole s book c Listing is) (omega arith)
 
   -- entry i as it is found
-  pub nth_hit : (i : ℕ) (e : Place) → nth_in limits Listing bytes i ≡ At e
+  pub nth_hit : (i : ℕ) (e : Place) → nth_in limits Listing bytes i ≡ Some e
       → (i < entry_count bytes) × (nth i es ≡ found (entry_of bytes e)) × (report_at s book c e ≡ report_of book c (entry_of bytes e))
   unfolding directory_of
   nth_hit i e h =
       let r = nth_read limits Listing bytes i e h in
       (r.0, sym (nth_good limits bytes Listing i is) ∙ ap (sought_of bytes) h, read_reported r.1 e r.2)
 
-  pub nth_nothing : (i : ℕ) → nth_in limits Listing bytes i ≡ Nothing → nth i es ≡ absent
+  pub nth_nothing : (i : ℕ) → nth_in limits Listing bytes i ≡ None → nth i es ≡ absent
   unfolding directory_of
   nth_nothing i h = sym (nth_good limits bytes Listing i is) ∙ ap (sought_of bytes) h
 
   -- the own bytes lie in the file, and are those of the chunk from the entry's place to the place behind it
-  pub own_stored : (at : ℕ) (e : Place) → item_at limits Listing bytes at ≡ Good e
+  pub own_stored : (at : ℕ) (e : Place) → item_at limits Listing bytes at ≡ Some e
       → part_of s (own_of book c (entry_of bytes e)).place (own_of book c (entry_of bytes e)).length ≡ part bytes e.at (e.next - e.at)
   unfolding own_of
   own_stored at e h =
@@ -90,7 +88,7 @@ module _ (s : List ℕ) (book : Record) (c : ℕ) (is : is_listing (directory_of
       chunk_part s book c z e.at (e.next - e.at) (omega arith)
 
   -- and so with its name
-  name_stored : (at : ℕ) (e : Place) → item_at limits Listing bytes at ≡ Good e
+  name_stored : (at : ℕ) (e : Place) → item_at limits Listing bytes at ≡ Some e
       → part_of s (report_of book c (entry_of bytes e)).place (report_of book c (entry_of bytes e)).length ≡ name_of bytes e
   unfolding report_of
   name_stored at e h =
@@ -100,7 +98,7 @@ module _ (s : List ℕ) (book : Record) (c : ℕ) (is : is_listing (directory_of
       ap (part_of s (chunk_place book c + e.start)) l ∙ chunk_part s book c z e.start e.len (omega arith)
 
   -- the own bytes are the name, and around it the numbers that are reported, each in its short form behind bytes 80 or none
-  pub own_padded : ((i : ℕ) → get_or s i 0 < 256) → (at : ℕ) (e : Place) → item_at limits Listing bytes at ≡ Good e
+  pub own_padded : ((i : ℕ) → get_or s i 0 < 256) → (at : ℕ) (e : Place) → item_at limits Listing bytes at ≡ Some e
       → OwnBytes s (report_of book c (entry_of bytes e)) (own_of book c (entry_of bytes e))
   unfolding item_at report_of own_of
   own_padded b at e h =

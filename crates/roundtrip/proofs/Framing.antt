@@ -1,6 +1,6 @@
 -- The headers of a new book are read back: they pass the checks of a head, give the record that the inputs fix, and each chunk stands where
 -- the record says.
-use Rattle.fields.proofs.Base.{ℕ, ◌+◌, ◌-◌, ◌*◌, ◌≤◌, ◌<◌, ◌^◌, arith, ℕ_discrete, ◌≡◌, refl, sym, ap, ◌∙◌, true, List, [], ◌∷◌, ◌++◌, flatten, length, get_or, le-leb, eq-eqb, ne_eqb}
+use Rattle.fields.proofs.Base.{ℕ, ◌+◌, ◌-◌, ◌*◌, ◌≤◌, ◌<◌, ◌^◌, arith, ℕ_discrete, ◌≡◌, refl, sym, ap, ◌∙◌, true, List, [], ◌∷◌, ◌++◌, flatten, length, get_or, le-leb, eq-eqb, ne_eqb, Ok}
 use Rattle.fields.specs.Le.{le}
 use Rattle.fields.proofs.Parts.{part_inside}
 use Rattle.entries.specs.declared.Kind.TheVariants.{Listing, Index}
@@ -11,7 +11,6 @@ use Rattle.file_header.proofs.Checks.{file_good, section_good}
 use Rattle.directory_header.specs.DirectoryHeader.{directory_fields_of}
 use Rattle.directory_header.proofs.Checks.{directory_good}
 use Rattle.header.specs.Header.{header_in, section_in, directory_in, record_from, header_of}
-use Rattle.header.specs.declared.CheckedHeader.TheVariants.{Good}
 use Rattle.header.proofs.Checks.{header_good}
 use Rattle.book.specs.Book.{chunk_bytes}
 use Rattle.entries.specs.Stored.{Stored}
@@ -99,7 +98,7 @@ module _ (density time language : ℕ) (l : Layout) (content : List ℕ) (dense 
   tall : ¬ (p ≡ 1) → 1 < n
   tall q = omega (arith, more (omega arith))
 
-  pub header_read : header_of file ≡ Good (record_for density time language l)
+  pub header_read : header_of file ≡ Ok (record_for density time language l)
   header_read =
       header_good file f (directory_fields_of (directory_in file f))
       (file_good (header_in file) (length file) (record {
@@ -112,7 +111,7 @@ module _ (density time language : ℕ) (l : Layout) (content : List ℕ) (dense 
       (directory_good (directory_in file f) f.length directory.tagged
       (rw head.directory_length_lem
       (directory_pass density p e n (directory_in file f) directory dense (omega arith) few.1 few.0 (omega arith) flat tall)))
-      ∙ ap Good (record_is density time language l (header_in file) (directory_in file f) head directory)
+      ∙ ap Ok (record_is density time language l (header_in file) (directory_in file f) head directory)
 
   -- ---- the chunks
 

@@ -1,12 +1,11 @@
 -- A new book by its record: every chunk means the entries that its layout gives it.
-use Rattle.fields.proofs.Base.{◌≡◌, refl, ap, ap₂, ◌∙◌, Bool, true, false, List, [], flatten, ℕ, ◌+◌, ◌-◌, ◌^◌, ◌≤◌, ◌<◌, arith, ℕ_discrete, length, get_or, ltb, ltb-true, eq-eqb, ne_eqb}
+use Rattle.fields.proofs.Base.{◌≡◌, refl, ap, ap₂, ◌∙◌, Bool, true, false, List, [], flatten, ℕ, ◌+◌, ◌-◌, ◌^◌, ◌≤◌, ◌<◌, arith, ℕ_discrete, length, get_or, ltb, ltb-true, eq-eqb, ne_eqb, Ok}
 use Rattle.entries.specs.declared.Limits.{Limits}
 use Rattle.entries.specs.declared.Kind.TheVariants.{Listing, Index}
 use Rattle.chunk.specs.Chunk.{parsed}
 use Rattle.chunk_fields.specs.ChunkFields.{spacing_of}
 use Rattle.header.specs.Header.{header_of}
 use Rattle.header.specs.declared.Record.{Record}
-use Rattle.header.specs.declared.CheckedHeader.TheVariants.{Good}
 use Rattle.book.specs.Book.{limits_of, directory_of}
 use Rattle.entries.specs.Stored.{Stored}
 use Rattle.fields.proofs.Lists.{all_at, All, all_weaken}
@@ -99,7 +98,7 @@ module _ (density time language : ℕ) (es : List Stored) (gs : List (List Store
   unfolding layout_over
   index_some h = (indexed n 4 0 gs).more h
 
-  pub head_good : header_of file ≡ Good book
+  pub head_good : header_of file ≡ Ok book
   head_good = header_read density time language l content cut.dense t g cut.small small some one index_some whole
 
   abbrev limits : Limits

@@ -1,6 +1,6 @@
 -- The round trip (`round_trip`): the head of a layout over entries that are cut so that they fit, with content of that length behind it, is a book
 -- with the record that inputs and layout fix, and its listing is those entries.
-use Rattle.fields.proofs.Base.{◌≡◌, refl, sym, ap, ap₂, subst, ◌∙◌, true, List, [], ◌∷◌, ◌++◌, map, flatten, flat_map, ℕ, zero, suc, ◌+◌, ◌-◌, ◌^◌, ◌<◌, arith, length, get_or, dec_le}
+use Rattle.fields.proofs.Base.{◌≡◌, refl, sym, ap, ap₂, subst, ◌∙◌, true, List, [], ◌∷◌, ◌++◌, map, flatten, flat_map, ℕ, zero, suc, ◌+◌, ◌-◌, ◌^◌, ◌<◌, arith, length, get_or, dec_le, Result, Ok}
 use mathlib.Core.List.{map-append}
 use Rattle.fields.specs.Part.{part}
 use Rattle.fields.proofs.Parts.{part_inside, part_within}
@@ -17,8 +17,6 @@ use Rattle.report.specs.Report.{report_of}
 use Rattle.report.specs.declared.Report.{Report}
 use Rattle.book.proofs.Laws.{chunk_inside}
 use Rattle.opening.specs.Opened.{chunk_then, chunks_then, linked_book, opened}
-use Rattle.opening.specs.declared.Opened.{Opened}
-use Rattle.opening.specs.declared.Opened.TheVariants.{Book}
 use Rattle.listing.specs.Listing.{reports_in}
 use Rattle.listing.specs.Whole.{whole_listing}
 use Rattle.entries.specs.Stored.{Stored}
@@ -34,15 +32,16 @@ use Rattle.roundtrip.proofs.Numbers.{numbers}
 use Rattle.roundtrip.proofs.Linking.{Links, links}
 use Rattle.roundtrip.proofs.Meant.{head_good, means}
 use Rattle.roundtrip.proofs.Names.{There, names_there}
+use Rattle.refusals.specs.declared.Refusal.{Refusal}
 
 -- ---- opening: no chunk is bad
 
-then_good : (p : Parsed) (c : ℕ) (r : Opened) → is_good p ≡ true → chunk_then p c r ≡ r
+then_good : (p : Parsed) (c : ℕ) (r : Result Record Refusal) → is_good p ≡ true → chunk_then p c r ≡ r
 then_good (bad n) c r h = never h
 then_good (listing prev next es) c r h = refl
 then_good (index es) c r h = refl
 
-all_good : (D : ℕ → Parsed) (r : Opened) (n c : ℕ) → ((i : ℕ) → i < n → is_good (D (c + i)) ≡ true) → chunks_then D n c r ≡ r
+all_good : (D : ℕ → Parsed) (r : Result Record Refusal) (n c : ℕ) → ((i : ℕ) → i < n → is_good (D (c + i)) ≡ true) → chunks_then D n c r ≡ r
 unfolding chunks_then
 all_good D r zero c h = refl
 all_good D r (suc n) c h =
@@ -124,7 +123,7 @@ module _ (density time language : ℕ) (es : List Stored) (gs : List (List Store
         | no k ↦ ap is_good (meant.leaf c (omega arith))
       ]
 
-  opens : opened file ≡ Book book
+  opens : opened file ≡ Ok book
   unfolding opened linked_book record_for
   opens =
       rw (head_good density time language es gs content t g cut small)

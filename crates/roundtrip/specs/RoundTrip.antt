@@ -1,10 +1,9 @@
 -- What the head of a new book is worth: with its content behind it, it is a book, and that book lists the entries that its layout holds.
-use Rattle.std.specs.Prelude.{ℕ, ◌-◌, ◌≡◌, List, ◌++◌, map, length}
+use Rattle.std.specs.Prelude.{ℕ, ◌-◌, ◌≡◌, List, ◌++◌, map, length, Ok}
 use Rattle.fields.specs.Part.{part}
 use Rattle.header.specs.declared.Record.{Record}
 use Rattle.report.specs.declared.Report.{Report}
 use Rattle.opening.specs.Opened.{opened}
-use Rattle.opening.specs.declared.Opened.TheVariants.{Book}
 use Rattle.listing.specs.Whole.{whole_listing}
 use Rattle.entries.specs.Stored.{Stored}
 use Rattle.layout.specs.Headers.{head_length}
@@ -39,6 +38,6 @@ new_book density time language l content = head_bytes density time language (len
 
 pub record RoundTrip (density time language : ℕ) (l : Layout) (es : List Stored) (file : List ℕ) : Type 0 where
   -- the file is a book, with the record that the inputs and the layout fix;
-  pub opens : opened file ≡ Book (record_for density time language l)
+  pub opens : opened file ≡ Ok (record_for density time language l)
   -- its listing is the entries, name by name and number by number
   pub lists : map (told_of file) (whole_listing file (record_for density time language l)) ≡ es

@@ -1,11 +1,11 @@
 -- Wherever the rules of the chain hold, the search along it finds exactly what listing chunks hold: `scan_complete`. So it does on every book that opening
 -- refuses for its index alone: `broken_index`.
-use Rattle.fields.proofs.Base.{◌≡◌, refl, sym, true, false≢true, List, ℕ, arith}
+use Rattle.fields.proofs.Base.{◌≡◌, refl, sym, ap, true, false≢true, List, ℕ, arith, Ok, Err}
+use Rattle.refusals.specs.Refusals.{number_of}
 use Rattle.refusals.specs.declared.Refusal.{Refusal}
 use Rattle.names.specs.Names.{askable}
 use Rattle.header.specs.Header.{header_of}
 use Rattle.header.specs.declared.Record.{Record}
-use Rattle.header.specs.declared.CheckedHeader.TheVariants.{Good}
 use Rattle.tree.specs.Descent.{Outcome, found, absent, refused}
 use Rattle.tree.specs.Exact.{PlainExact}
 use Rattle.tree.proofs.Reading.{plain_exact}
@@ -13,7 +13,6 @@ use Rattle.book.specs.Book.{directory_of, shape_of}
 use Rattle.report.specs.Report.{report_of}
 use Rattle.opening.specs.Opened.{opened}
 use Rattle.opening.specs.Refusals.{Told, head, chunk, chain, tree}
-use Rattle.opening.specs.declared.Opened.{Opened}
 use Rattle.opening.proofs.Accepted.{head_fits}
 use Rattle.opening.proofs.Refusals.{refusal_told}
 use Rattle.lookup.specs.Reply.{reply_to}
@@ -47,12 +46,12 @@ scan_complete s book name a f c =
 -- ---- a book that opening refuses by 14, for its index alone
 
 -- the record of its head can be asked, and with it the search finds exactly what listing chunks hold
-pub broken_index : (s : List ℕ) (x : Refusal) → opened s ≡ Opened.Refused x → x.number ≡ 14
-    → (r : Record) × (header_of s ≡ Good r) × ((name : List ℕ) → askable name ≡ true → ChainComplete s r name (scanned s r name))
+pub broken_index : (s : List ℕ) (x : Refusal) → opened s ≡ Err x → number_of x.rule ≡ 14
+    → (r : Record) × (header_of s ≡ Ok r) × ((name : List ℕ) → askable name ≡ true → ChainComplete s r name (scanned s r name))
 broken_index s x e n = go (refusal_told s x e)
   where
-    go : Told s x → (r : Record) × (header_of s ≡ Good r) × ((name : List ℕ) → askable name ≡ true → ChainComplete s r name (scanned s r name))
+    go : Told s x → (r : Record) × (header_of s ≡ Ok r) × ((name : List ℕ) → askable name ≡ true → ChainComplete s r name (scanned s r name))
     go (head h l m k) = absurd (omega arith)
-    go (chunk r h l q g a b) = absurd (omega arith)
-    go (chain r h g p m k) = absurd (omega arith)
+    go (chunk r k h l q g f a b) = absurd (omega arith)
+    go (chain r h g p m k) = let z : number_of x.rule ≡ 13 = ap number_of m in absurd (omega arith)
     go (tree r h g p t m k) = (r, h, λ name a. scan_complete s r name a (head_fits s r h) p)

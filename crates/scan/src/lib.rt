@@ -8,6 +8,7 @@ ghost use Rattle.scan.specs.Complete.{CompleteOnChain};
 
 use header::Record;
 use lookup::Reply;
+use refusals::Rule;
 use search::Search;
 
 // The search from the record's first listing chunk on. More chunks than the record counts are no chain of a book: the first of these is refused.
@@ -18,18 +19,18 @@ fn scan_chain(file: &[u8], book: Record, name: &[u8]) -> Reply
     let mut left = book.count;
     while 0 < left {
         match search::search_in(file, book, name, c) {
-            Search::Found(_, x) => return Reply::Found(x),
-            Search::Next(_, next) => {
+            Some(Search::Found(_, x)) => return Ok(Some(x)),
+            Some(Search::Next(_, next)) => {
                 if next == refusals::no_chunk() {
-                    return Reply::Absent;
+                    return Ok(None);
                 }
                 c = next as u64;
             }
-            Search::Barred => return Reply::Refused(refusals::refuse(17)),
+            None => return Err(refusals::refuse(Rule::BadRecord)),
         }
         left -= 1;
     }
-    Reply::Refused(refusals::refuse(17))
+    Err(refusals::refuse(Rule::BadRecord))
 }
 
 // The entry of a name, found along the chain alone. On a book that opens it answers what lookup does; where only the index is broken it still finds
@@ -42,10 +43,10 @@ pub fn scan(file: &[u8], book: Record, name: &[u8]) -> Reply
     let good_name = names::is_askable(name);
     let good_record = book::record_fits(file, book);
     if !good_name {
-        return Reply::Refused(refusals::refuse(15));
+        return Err(refusals::refuse(Rule::BadName));
     }
     if !good_record {
-        return Reply::Refused(refusals::refuse(17));
+        return Err(refusals::refuse(Rule::BadRecord));
     }
     scan_chain(file, book, name)
 }

@@ -6,56 +6,47 @@ ghost use Rattle.search.specs.Search.{finding_in, child_in, search_in};
 
 use chunk::Chunk;
 use header::Record;
-use quickref::Hit;
 use report::Report;
-use seek::CountedChild;
-
-// What the search in the bytes of a chunk comes to; the number in front is how many comparisons of the asked name it made.
-#[derive(Clone, Copy)]
-pub enum Finding {
-    Found(u32, Report),
-    Nothing(u32),
-}
+use seek::Searched;
 
 // What the search for a name in one listing chunk comes to: its entry, or the number of the chunk's next; the number in front is how many comparisons
-// it made. `Barred` where there is no listing chunk.
+// it made.
 #[derive(Clone, Copy)]
 pub enum Search {
     Found(u32, Report),
     Next(u32, u32),
-    Barred,
 }
 
 // The search for a name in the bytes of chunk c, which nobody has to have checked.
-pub fn find_in(file: &[u8], book: Record, name: &[u8], c: u64) -> Finding
+pub fn find_in(file: &[u8], book: Record, name: &[u8], c: u64) -> Searched<Option<Report>>
     ensures { result ≡ finding_in file.now book name.now c }
 {
     let bytes = book::chunk_bytes(file, book, c);
     let found = seek::find(bytes, book::limits(file, book), name);
-    let hit = found.hit;
-    match hit {
-        Hit::At(e) => Finding::Found(found.count, report::report_of(file, book, c, e)),
-        Hit::Nothing => Finding::Nothing(found.count),
+    Searched {
+        answer: found.answer.map(|e| report::report_of(file, book, c, e)),
+        count: found.count,
     }
 }
 
 // Where the bytes of chunk c, as those of an index chunk, lead for a name.
-pub fn child_in(file: &[u8], book: Record, name: &[u8], c: u64) -> CountedChild
+pub fn child_in(file: &[u8], book: Record, name: &[u8], c: u64) -> Searched<Option<u64>>
     ensures { result ≡ child_in file.now book name.now c }
 {
     let index = book::chunk_bytes(file, book, c);
     seek::choose(index, book::limits(file, book), name)
 }
 
-// The search for a name in chunk c, which is checked whole first.
-pub fn search_in(file: &[u8], book: Record, name: &[u8], c: u64) -> Search
+// The search for a name in chunk c, which is checked whole first; none where it is no listing chunk.
+pub fn search_in(file: &[u8], book: Record, name: &[u8], c: u64) -> Option<Search>
     ensures { result ≡ search_in file.now book name.now c }
 {
-    let Chunk::Listing(_, next) = book::checked_chunk(file, book, c) else {
-        return Search::Barred;
+    let Ok(Chunk::Listing(_, next)) = book::checked_chunk(file, book, c) else {
+        return None;
     };
-    match find_in(file, book, name, c) {
-        Finding::Found(count, x) => Search::Found(count, x),
-        Finding::Nothing(spent) => Search::Next(spent, next),
+    let found = find_in(file, book, name, c);
+    match found.answer {
+        Some(x) => Some(Search::Found(found.count, x)),
+        None => Some(Search::Next(found.count, next)),
     }
 }

@@ -1,8 +1,8 @@
 -- What is sought among entries whose names rise: it stands from one that is not above the name on, and before one that is above it.
 use Rattle.fields.proofs.Base.{◌≡◌, refl, sym, ap, ◌∙◌, ◌⊎◌, inl, inr, List, [], ◌∷◌, true, false, false≢true, ℕ, zero, suc, ◌≤◌, ◌<◌, arith, length, get_or, take, drop}
-use Rattle.names.specs.Order.{is_less}
+use Rattle.std.specs.Ordering.{is_lt}
 use Rattle.names.specs.Names.{compared, below, matches}
-use Rattle.names.specs.declared.Order.TheVariants.{Greater}
+use Rattle.std.specs.declared.cmp.Ordering.TheVariants.{Greater}
 use Rattle.names.proofs.Laws.{not_greater, names_laws, is_less_true, below_less, not_less, less_not_greater, not_greater_less, flip_less}
 use Rattle.entries.specs.Rising.{rising}
 use Rattle.entries.specs.Entry.{Entry, entry_name}
@@ -12,9 +12,9 @@ use Rattle.quickref.proofs.Groups.{other}
 use Rattle.seek.specs.Seek.{entry_named, choice}
 
 -- what is below y is below a name that y is not above
-below_it : (name x y : List ℕ) → below x y ≡ true → is_less (compared name y) ≡ false → compared name x ≡ Greater
+below_it : (name x y : List ℕ) → below x y ≡ true → is_lt (compared name y) ≡ false → compared name x ≡ Greater
 below_it name x y h q =
-    let g = not_less names_laws name y (λ p. false≢true (sym q ∙ ap is_less p)) in
+    let g = not_less names_laws name y (λ p. false≢true (sym q ∙ ap is_lt p)) in
     flip_less names_laws x name (less_not_greater names_laws x y name (below_less x y h) g)
 
 module _ (name : List ℕ) where
@@ -38,7 +38,7 @@ module _ (name : List ℕ) where
 
   -- ---- from an entry on that is not above
 
-  pub lookup_from : (j : ℕ) (x : List ℕ) (es : List Entry) → rising entry_name x es ≡ true → j < length es → is_less (compared name (get_or es j other).name) ≡ false
+  pub lookup_from : (j : ℕ) (x : List ℕ) (es : List Entry) → rising entry_name x es ≡ true → j < length es → is_lt (compared name (get_or es j other).name) ≡ false
       → entry_named name es ≡ entry_named name (drop j es)
   unfolding rising entry_named matches
   lookup_from zero x es r h q = refl
@@ -47,11 +47,11 @@ module _ (name : List ℕ) where
       let b = (rising_more entry_name x e es r).1 in
       rw (below_it name e.name (get_or es j other).name (rising_at entry_name j e.name es other b (omega arith)) q) (lookup_from j e.name es b (omega arith) q)
 
-  choice_head : (e : Entry) (es : List Entry) (before : Sought) → is_less (compared name e.name) ≡ false → choice name before (e ∷ es) ≡ choice name absent (e ∷ es)
+  choice_head : (e : Entry) (es : List Entry) (before : Sought) → is_lt (compared name e.name) ≡ false → choice name before (e ∷ es) ≡ choice name absent (e ∷ es)
   unfolding choice below
   choice_head e es before q = rw q refl
 
-  pub choice_from : (j : ℕ) (x : List ℕ) (es : List Entry) (before : Sought) → rising entry_name x es ≡ true → j < length es → is_less (compared name (get_or es j other).name) ≡ false
+  pub choice_from : (j : ℕ) (x : List ℕ) (es : List Entry) (before : Sought) → rising entry_name x es ≡ true → j < length es → is_lt (compared name (get_or es j other).name) ≡ false
       → choice name before es ≡ choice name absent (drop j es)
   unfolding rising choice below
   choice_from j x [] before r h q = absurd (omega arith)
@@ -64,7 +64,7 @@ module _ (name : List ℕ) where
 
   -- entry m is above the name, or there is none
   abbrev pub Ends : ℕ → List Entry → Type 0
-  Ends m es = (length es ≤ m) ⊎ ((m < length es) × (is_less (compared name (get_or es m other).name) ≡ true))
+  Ends m es = (length es ≤ m) ⊎ ((m < length es) × (is_lt (compared name (get_or es m other).name) ≡ true))
 
   fewer : (m : ℕ) (e : Entry) (es : List Entry) → Ends (suc m) (e ∷ es) → Ends m es
   fewer m e es (inl h) = inl (omega arith)

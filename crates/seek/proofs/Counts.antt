@@ -2,17 +2,13 @@
 --     cost_few     at most h + n, where 2 ^ h is the number of groups or more, and n entries are in a group
 --     cost_good    on a chunk that passes its check, as many over its bytes as among its entries
 --     cost_small   on any bytes, a number that fits 32 bits five times over
-use Rattle.fields.proofs.Base.{◌≡◌, refl, sym, ap, ap₂, ◌∙◌, List, [], ◌∷◌, true, ℕ, zero, suc, ◌+◌, ◌-◌, ◌*◌, ◌^◌, ◌≤◌, ◌<◌, min, arith, div-le_self, length, take, drop, length-drop}
+use Rattle.fields.proofs.Base.{◌≡◌, refl, sym, ap, ap₂, ◌∙◌, List, [], ◌∷◌, true, ℕ, zero, suc, ◌+◌, ◌-◌, ◌*◌, ◌^◌, ◌≤◌, ◌<◌, min, arith, div-le_self, length, take, drop, length-drop, Option, Some, None}
 use Rattle.fields.specs.Part.{part}
-use Rattle.names.specs.declared.Order.{Order}
-use Rattle.names.specs.declared.Order.TheVariants.{Less, Equal, Greater}
-use Rattle.encint.specs.declared.Number.{Number}
-use Rattle.encint.specs.declared.Number.TheVariants.{Value}
+use Rattle.std.specs.declared.cmp.Ordering.{Ordering}
+use Rattle.std.specs.declared.cmp.Ordering.TheVariants.{Less, Equal, Greater}
 use Rattle.entries.specs.Entry.{with_number, item_at, name_of, with_item, Entry, entry_of}
 use Rattle.entries.specs.declared.Limits.{Limits}
 use Rattle.entries.specs.declared.Place.{Place}
-use Rattle.entries.specs.declared.Item.{Item}
-use Rattle.entries.specs.declared.Item.TheVariants.{Good, Bad}
 use Rattle.entries.proofs.Laws.{item_inside}
 use Rattle.entries.specs.declared.Kind.{Kind}
 use Rattle.entries.specs.declared.Kind.TheVariants.{Listing, Index}
@@ -30,7 +26,7 @@ use Rattle.seek.specs.Count.{passed, comparisons, compared_at, walked, cost_in}
 
 -- ---- the bound
 
-one_more : (o : Order) {a n : ℕ} → a ≤ n → suc (by_order o 0 0 a) ≤ suc n
+one_more : (o : Ordering) {a n : ℕ} → a ≤ n → suc (by_order o 0 0 a) ≤ suc n
 one_more Less h = omega arith
 one_more Equal h = omega arith
 one_more Greater h = omega arith
@@ -52,7 +48,7 @@ cost_few n stand es h l =
 -- ---- a chunk that passes its check
 
 -- the name of an entry is compared
-compared_good : (limits : Limits) (k : Kind) (s : List ℕ) (at : ℕ) (e : Place) → item_at limits k s at ≡ Good e → compared_at limits k s at ≡ Value e.len e.start
+compared_good : (limits : Limits) (k : Kind) (s : List ℕ) (at : ℕ) (e : Place) → item_at limits k s at ≡ Some e → compared_at limits k s at ≡ Some (e.len, e.start)
 unfolding compared_at
 compared_good limits Listing s at e g = rw g refl
 compared_good limits Index s at e g = (item_inside limits Index s at e g).read
@@ -101,13 +97,13 @@ unfolding walked
 walked_few limits k s stand zero at = omega arith
 walked_few limits k s stand (suc n) at = go (compared_at limits k s at) (behind (item_at limits k s at) (λ p. walked_few limits k s stand n p))
   where
-    behind : (i : Item) → ((p : ℕ) → walked limits k s stand n p ≤ n) → with_item i 0 (λ e. walked limits k s stand n e.next) ≤ n
-    behind Bad f = omega arith
-    behind (Good e) f = f e.next
+    behind : (i : Option Place) → ((p : ℕ) → walked limits k s stand n p ≤ n) → with_item i 0 (λ e. walked limits k s stand n e.next) ≤ n
+    behind None f = omega arith
+    behind (Some e) f = f e.next
 
-    go : (x : Number) {w : ℕ} → w ≤ n → with_number x 0 (λ len start. suc (by_order (stand (part s start len)) 0 0 w)) ≤ suc n
-    go Number.Bad f = omega arith
-    go (Value len start) f = one_more (stand (part s start len)) f
+    go : (x : Option (ℕ × ℕ)) {w : ℕ} → w ≤ n → with_number x 0 (λ len start. suc (by_order (stand (part s start len)) 0 0 w)) ≤ suc n
+    go None f = omega arith
+    go (Some (len, start)) f = one_more (stand (part s start len)) f
 
 module _ (limits : Limits) (k : Kind) (s : List ℕ) (stand : Stand) where
   -- with so many entries of the group left

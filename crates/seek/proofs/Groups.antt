@@ -1,7 +1,7 @@
 -- In a chunk that passes its check, what a name leads to stands in the group that halving leaves for it.
 --     group_lookup, group_choice  what is sought among all entries is sought among those of that group
 use Rattle.fields.proofs.Base.{◌≡◌, sym, ap, subst, ◌∙◌, inl, inr, List, [], true, ℕ, ◌+◌, ◌-◌, ◌*◌, ◌≤◌, ◌<◌, arith, dec_lt, length, get_or, take, drop, length-drop, get_or-drop}
-use Rattle.names.specs.Order.{is_less}
+use Rattle.std.specs.Ordering.{is_lt}
 use Rattle.names.specs.Names.{compared}
 use Rattle.entries.specs.declared.Limits.{Limits}
 use Rattle.entries.specs.declared.Kind.{Kind}
@@ -27,8 +27,8 @@ module _ (limits : Limits) (k : Kind) (s : List ℕ) (es : List Entry) (good : A
   last = quick_count n (entry_count s)
 
   module _ (name : List ℕ) (g : ℕ) (right : Right limits k s es good (compared name) g) where
-    first_is : (i : ℕ) → above_in n (compared name) es i ≡ is_less (compared name (get_or es (i * n) other).name)
-    first_is i = ap (λ (x : List ℕ). is_less (compared name x)) (nth_name (i * n) es)
+    first_is : (i : ℕ) → above_in n (compared name) es i ≡ is_lt (compared name (get_or es (i * n) other).name)
+    first_is i = ap (λ (x : List ℕ). is_lt (compared name x)) (nth_name (i * n) es)
 
     inside : g * n < length es
     inside = let l = last_inside limits k s es good g right.0 in omega (arith, entries_counted limits k s es good, l)
@@ -45,8 +45,8 @@ module _ (limits : Limits) (k : Kind) (s : List ℕ) (es : List Entry) (good : A
         let i = last_inside limits k s es good (g + 1) (omega arith) in
         let y : (g + 1) * n ≡ g * n + n = omega arith in
         let w : size_in limits s g ≡ n = omega (arith, i, y) in
-        let b : is_less (compared name (get_or (drop (g * n) es) n other).name) ≡ true =
-        ap (λ (e : Entry). is_less (compared name e.name)) (get_or-drop (g * n) es n other ∙ ap (λ (j : ℕ). get_or es j other) (sym y)) ∙ sym (first_is (g + 1)) ∙ a in
+        let b : is_lt (compared name (get_or (drop (g * n) es) n other).name) ≡ true =
+        ap (λ (e : Entry). is_lt (compared name e.name)) (get_or-drop (g * n) es n other ∙ ap (λ (j : ℕ). get_or es j other) (sym y)) ∙ sym (first_is (g + 1)) ∙ a in
         subst (λ (m : ℕ). Ends name m (drop (g * n) es)) (sym w) (inr (omega (arith, i, y, size), b))
 
     ends : Ends name (size_in limits s g) (drop (g * n) es)

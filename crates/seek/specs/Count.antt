@@ -1,9 +1,7 @@
 -- How many comparisons of the asked name a search in one chunk makes. First over the list of a chunk's entries, which is what is meant; then over the
 -- chunk's bytes, which is how it goes. `cost_good` of proofs/Counts.antt says that on a chunk that passes its check the two are the same.
-use Rattle.std.specs.Prelude.{List, [], ◌∷◌, ℕ, zero, suc, ◌+◌, ◌*◌, ◌^◌, ◌≤◌, length, take, drop}
+use Rattle.std.specs.Prelude.{List, [], ◌∷◌, ℕ, zero, suc, ◌+◌, ◌*◌, ◌^◌, ◌≤◌, length, take, drop, Option, Some, None}
 use Rattle.fields.specs.Part.{part}
-use Rattle.encint.specs.declared.Number.{Number}
-use Rattle.encint.specs.declared.Number.TheVariants.{Value, Bad}
 use Rattle.entries.specs.Entry.{with_number, name_at, item_at, with_item, Entry}
 use Rattle.entries.specs.declared.Limits.{Limits}
 use Rattle.entries.specs.declared.Kind.{Kind}
@@ -35,8 +33,8 @@ pub record Least (g h : ℕ) : Type 0 where
 -- ---- over the bytes of a chunk; in those of a chunk that passes its check each turn has its name
 
 -- the name that is compared at a place, if there is one: a listing entry is read whole before, of an index entry only the name
-unfoldable pub compared_at : Limits → Kind → List ℕ → ℕ → Number
-compared_at limits Listing s at = with_item (item_at limits Listing s at) Bad (λ e. Value e.len e.start)
+unfoldable pub compared_at : Limits → Kind → List ℕ → ℕ → Option (ℕ × ℕ)
+compared_at limits Listing s at = with_item (item_at limits Listing s at) None (λ e. Some (e.len, e.start))
 compared_at limits Index s at = name_at s at
 
 -- among n entries from a place on

@@ -1,11 +1,10 @@
 -- A pass over the input, as a loop has it: the entries that are left, with the place of the next one and the name before it.
-use Rattle.fields.proofs.Base.{◌≡◌, refl, List, [], ◌∷◌, map, Bool, true, false, ◌&&◌, ℕ, ◌-◌, ◌<◌, arith, length, ltb, eqb, lt-ltb, le-ltb, ne_eqb}
+use Rattle.fields.proofs.Base.{◌≡◌, refl, List, [], ◌∷◌, map, Bool, true, false, ◌&&◌, ℕ, ◌-◌, ◌<◌, arith, length, ltb, eqb, lt-ltb, le-ltb, ne_eqb, Some}
 use native.Mathlib.Nat.{le_refl}
 use Rattle.fields.proofs.Tests.{and_yes}
 use Rattle.names.specs.Names.{below}
 use Rattle.entries.specs.Entry.{listing_at, name_of}
 use Rattle.entries.specs.declared.Place.{Place}
-use Rattle.entries.specs.declared.Item.TheVariants.{Good}
 use Rattle.entries.specs.Rising.{rising}
 use Rattle.entries.specs.Stored.{stored_of, unpadded, stored_name}
 use Rattle.source.specs.Source.{entries_from, end_of}
@@ -50,7 +49,7 @@ module _ (content : ℕ) (s : List ℕ) where
   unfolding end_of all_unpadded rising
   passes_end left at last q = rw q (and_yes (eqb at (length s)))
 
-  pub passes_more : (left at : ℕ) (last : List ℕ) (e : Place) → 0 < left → listing_at content s at ≡ Good e
+  pub passes_more : (left at : ℕ) (last : List ℕ) (e : Place) → 0 < left → listing_at content s at ≡ Some e
       → passes s at last (ahead left at) ≡ (unpadded s e && (below last (name_of s e) && passes s e.next (name_of s e) (ahead (left - 1) e.next)))
   unfolding end_of all_unpadded rising
   passes_more left at last e h q =

@@ -1,10 +1,9 @@
 -- What every entry keeps that the writer is given (FORMAT E3 to E6).
-use Rattle.fields.proofs.Base.{◌≡◌, List, true, ◌||◌, ℕ, ◌+◌, ◌^◌, ◌≤◌, ◌<◌, arith, length, ltb, leb}
+use Rattle.fields.proofs.Base.{◌≡◌, List, true, ◌||◌, ℕ, ◌+◌, ◌^◌, ◌≤◌, ◌<◌, arith, length, ltb, leb, Some}
 use Rattle.fields.proofs.Parts.{length_part}
 use Rattle.encint.proofs.Reading.{encint_small}
 use Rattle.entries.specs.Entry.{listing_at}
 use Rattle.entries.specs.declared.Place.{Place}
-use Rattle.entries.specs.declared.Item.TheVariants.{Good}
 use Rattle.entries.proofs.Laws.{name_next, listing_apart}
 use Rattle.entries.specs.Stored.{Stored, stored_of}
 use Rattle.source.specs.Input.{given}
@@ -21,7 +20,7 @@ pub record Kept (content : ℕ) (e : Stored) : Type 0 where
   pub childless : e.child ≡ 0
 
 module _ (content : ℕ) (s : List ℕ) where
-  kept_one : (at : ℕ) (e : Place) → listing_at content s at ≡ Good e → Kept content (stored_of s e)
+  kept_one : (at : ℕ) (e : Place) → listing_at content s at ≡ Some e → Kept content (stored_of s e)
   kept_one at e q =
       let a = listing_apart content s at e q in
       let n = name_next s at e.len e.start a.name in

@@ -1,16 +1,16 @@
 -- Names that compare equal stand alike to others. This is the only place above the search in a chunk where the tests of names are opened, and of the
 -- order only its laws are used.
 use Rattle.fields.proofs.Base.{◌≡◌, ap, true, false, List, ℕ}
-use Rattle.names.specs.Order.{is_less, is_equal}
+use Rattle.std.specs.Ordering.{is_lt, is_eq}
 use Rattle.names.specs.Names.{compared, below, matches}
-use Rattle.names.specs.declared.Order.TheVariants.{Greater}
+use Rattle.std.specs.declared.cmp.Ordering.TheVariants.{Greater}
 use Rattle.names.proofs.Laws.{names_laws, flip_less, equal_sym, less_equal, equal_less, below_less, less_below, matches_equal}
 
 module _ (name a : List ℕ) (k : matches name a ≡ true) where
   -- a name is not below its equal
   pub equal_self : below name a ≡ false
   unfolding below
-  equal_self = ap is_less (matches_equal name a k)
+  equal_self = ap is_lt (matches_equal name a k)
 
   -- it is below what its equal is below
   pub equal_below : (b : List ℕ) → below a b ≡ true → below name b ≡ true
@@ -23,8 +23,8 @@ module _ (name a : List ℕ) (k : matches name a ≡ true) where
   -- so it is not below that, nor equal to it
   pub equal_above : (b : List ℕ) → below b a ≡ true → below name b ≡ false
   unfolding below
-  equal_above b h = ap is_less (before b h)
+  equal_above b h = ap is_lt (before b h)
 
   pub before_equal : (b : List ℕ) → below b a ≡ true → matches name b ≡ false
   unfolding matches
-  before_equal b h = ap is_equal (before b h)
+  before_equal b h = ap is_eq (before b h)

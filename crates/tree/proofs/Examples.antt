@@ -15,6 +15,7 @@ use Rattle.tree.specs.Tree.{top, leaves, index_chunks, shaped, tree_ok}
 use Rattle.tree.specs.Walk.{chain_run, chain_run_ok, walk_tree, tree_walk_ok}
 use Rattle.tree.specs.Descent.{found, absent, outcome_from, trail_from, outcome, trail}
 use Rattle.tree.specs.Exact.{GoodDirectory}
+use Rattle.refusals.specs.declared.Rule.TheVariants.{ChunkTag}
 
 -- an entry with a name, and a child
 abbrev to : List ℕ → ℕ → Entry
@@ -24,7 +25,7 @@ abbrev entry : List ℕ → Entry
 entry n = to n 0
 
 abbrev of : List Parsed → ℕ → Parsed
-of ps c = get_or ps c (bad 8)
+of ps c = get_or ps c (bad ChunkTag)
 
 -- `/`, `/a`, `/b`, `/B`, `/c`
 abbrev slash : List ℕ

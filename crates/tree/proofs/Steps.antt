@@ -1,16 +1,14 @@
 -- Chain, walk and descent one step at a time, in the terms that code has at hand: a return or a turn of a loop has its equation here.
 -- Levels and counts are plain numbers.
-use Rattle.fields.proofs.Base.{◌≡◌, refl, ap, true, false, List, ℕ, zero, suc, ◌-◌, ◌<◌, arith, sub-one, eqb, eq-eqb, ne_eqb}
+use Rattle.fields.proofs.Base.{◌≡◌, refl, ap, true, false, List, ℕ, zero, suc, ◌-◌, ◌<◌, arith, sub-one, eqb, eq-eqb, ne_eqb, Option, Some, None}
 use Rattle.chunk.specs.Chunk.{Parsed, entries_in}
 use Rattle.quickref.specs.Quickref.{sought_of}
-use Rattle.quickref.specs.declared.Hit.{Hit}
-use Rattle.quickref.specs.declared.Hit.TheVariants.{At, Nothing}
 use Rattle.seek.specs.Seek.{child_of}
-use Rattle.seek.specs.declared.Child.TheVariants.{Below, Nowhere}
 use Rattle.tree.specs.Shape.{Shape, next_of, listing_chunk, index_chunk}
 use Rattle.tree.specs.Walk.{stopped, going, into_child, visit, walk_tree, chain_run}
 use Rattle.tree.specs.Descent.{onward}
 use Rattle.tree.proofs.Lists.{on_test}
+use Rattle.entries.specs.declared.Place.{Place}
 
 module _ (D : ℕ → Parsed) (H : Shape) where
   -- ---- the run along the chain: chunk c behind p, with k listing chunks not yet met
@@ -66,17 +64,17 @@ module _ (D : ℕ → Parsed) (H : Shape) where
 
 -- ---- where the search in an index chunk leads
 
-module _ {A : Type 0} (s : List ℕ) (x : Hit) (d : A) (f : ℕ → A) where
-  pub leads_down : (k : ℕ) → child_of x ≡ Below k → onward (sought_of s x) d f ≡ f k
+module _ {A : Type 0} (s : List ℕ) (x : Option Place) (d : A) (f : ℕ → A) where
+  pub leads_down : (k : ℕ) → child_of x ≡ Some k → onward (sought_of s x) d f ≡ f k
   leads_down k = go x
     where
-      go : (x : Hit) → child_of x ≡ Below k → onward (sought_of s x) d f ≡ f k
-      go Nothing q = absurd (let z : ◌≡◌ {A = ℕ} 0 1 = cc in omega arith)
-      go (At e) q = let z : e.child ≡ k = cc in ap f z
+      go : (x : Option Place) → child_of x ≡ Some k → onward (sought_of s x) d f ≡ f k
+      go None q = absurd (let z : ◌≡◌ {A = ℕ} 0 1 = cc in omega arith)
+      go (Some e) q = let z : e.child ≡ k = cc in ap f z
 
-  pub leads_nowhere : child_of x ≡ Nowhere → onward (sought_of s x) d f ≡ d
+  pub leads_nowhere : child_of x ≡ None → onward (sought_of s x) d f ≡ d
   leads_nowhere = go x
     where
-      go : (x : Hit) → child_of x ≡ Nowhere → onward (sought_of s x) d f ≡ d
-      go Nothing q = refl
-      go (At e) q = absurd (let z : ◌≡◌ {A = ℕ} 0 1 = cc in omega arith)
+      go : (x : Option Place) → child_of x ≡ None → onward (sought_of s x) d f ≡ d
+      go None q = refl
+      go (Some e) q = absurd (let z : ◌≡◌ {A = ℕ} 0 1 = cc in omega arith)

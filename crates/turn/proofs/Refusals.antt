@@ -1,25 +1,32 @@
 -- A refusal that one name gives is 17 of no chunk, beside the number of one of the two books: `turn_fair`.
-use Rattle.fields.proofs.Base.{◌≡◌, refl, ◌⊎◌, Bool, true, false, cond, List, ℕ}
+use Rattle.fields.proofs.Base.{◌≡◌, refl, ◌⊎◌, inl, inr, Bool, true, false, cond, List, ℕ, Result, Ok, Err}
 use Rattle.refusals.specs.Refusals.{refusal_of}
 use Rattle.entries.specs.declared.Place.{Place}
 use Rattle.header.specs.declared.Record.{Record}
 use Rattle.walk.specs.Walk.{after_of}
 use Rattle.walk.specs.declared.Walk.{Walk}
-use Rattle.turn.specs.Turn.{one_same, one_changed, both_at, shown_at, same_at, in_both, turned}
+use Rattle.turn.specs.Turn.{one_same, one_changed, both_at, shown_at, same_at, in_both, turned, which_number}
 use Rattle.turn.specs.declared.Cursor.{Cursor}
 use Rattle.turn.specs.declared.Step.{Step}
-use Rattle.turn.specs.declared.Step.TheVariants.{First, Second, Changed, End, Refused}
+use Rattle.turn.specs.declared.Step.TheVariants.{First, Second, Changed, End}
 use Rattle.turn.specs.declared.Turn.{Turn}
 use Rattle.turn.specs.declared.Turn.TheVariants.{Tell, On}
 use Rattle.turn.proofs.Turns.{turn_cases}
+use Rattle.refusals.specs.declared.Rule.TheVariants.{BadRecord}
+use Rattle.refusals.specs.declared.Refusal.{Refusal}
+use Rattle.turn.specs.declared.Which.{Which}
+
+one_of : (k : Which) → (which_number k ≡ 1) ⊎ (which_number k ≡ 2)
+one_of Which.First = inl refl
+one_of Which.Second = inr refl
 
 -- a refusal is that of one of the two books
-abbrev pub Fair : Step → Type 0
-Fair (First x a) = Unit {0}
-Fair (Second y a) = Unit {0}
-Fair (Changed x y a) = Unit {0}
-Fair (End t) = Unit {0}
-Fair (Refused k r) = ((k ≡ 1) ⊎ (k ≡ 2)) × (r ≡ refusal_of 17)
+abbrev pub Fair : Result Step (Which × Refusal) → Type 0
+Fair (Ok (First x a)) = Unit {0}
+Fair (Ok (Second y a)) = Unit {0}
+Fair (Ok (Changed x y a)) = Unit {0}
+Fair (Ok (End t)) = Unit {0}
+Fair (Err (k, r)) = ((which_number k ≡ 1) ⊎ (which_number k ≡ 2)) × (r ≡ refusal_of BadRecord)
 
 abbrev pub FairTurn : Turn → Type 0
 FairTurn (Tell x) = Fair x
@@ -31,7 +38,7 @@ module _ (s₁ : List ℕ) (b₁ : Record) (s₂ : List ℕ) (b₂ : Record) whe
   both_fair at x v₁ y v₂ = go (same_at x y)
     where
       go : (k : Bool) → FairTurn (cond k (On (both_at (after_of v₁ x) (after_of v₂ y) (one_same at.totals)))
-          (Tell (Changed (shown_at s₁ b₁ v₁ x) (shown_at s₂ b₂ v₂ y) (both_at (after_of v₁ x) (after_of v₂ y) (one_changed at.totals)))))
+          (Tell (Ok (Changed (shown_at s₁ b₁ v₁ x) (shown_at s₂ b₂ v₂ y) (both_at (after_of v₁ x) (after_of v₂ y) (one_changed at.totals))))))
       go true = tt
       go false = tt
 
@@ -39,7 +46,7 @@ module _ (s₁ : List ℕ) (b₁ : Record) (s₂ : List ℕ) (b₂ : Record) whe
   turn_fair at =
       turn_cases s₁ b₁ s₂ b₂ at FairTurn
       (record {
-        refused = λ k e. (e, refl);
+        refused = λ k. (one_of k, refl);
         ended = tt;
         first = λ x v₁ v₂ h k. tt;
         second = λ v₁ y v₂ h k. tt;

@@ -1,5 +1,5 @@
 -- The cursor over two books, and what one name gives. For any bytes, records and cursors.
-use Rattle.std.specs.Prelude.{ℕ, ◌+◌, ◌%◌, ◌^◌, ◌<◌, Bool, cond, ◌&&◌, List, ◌==◌}
+use Rattle.std.specs.Prelude.{ℕ, ◌+◌, ◌%◌, ◌^◌, ◌<◌, Bool, cond, ◌&&◌, List, ◌==◌, Option, Some, None, Result, Ok, Err}
 use Rattle.refusals.specs.Refusals.{refusal_of}
 use Rattle.names.specs.Names.{compared}
 use Rattle.entries.specs.declared.Place.{Place}
@@ -8,8 +8,6 @@ use Rattle.header.specs.declared.Record.{Record}
 use Rattle.report.specs.Report.{report_at, own_at}
 use Rattle.walk.specs.Walk.{after_of, coming_at, name_here, weight}
 use Rattle.walk.specs.declared.Walk.{Walk}
-use Rattle.walk.specs.declared.Coming.{Coming}
-use Rattle.walk.specs.declared.Coming.TheVariants.{Entry}
 use Rattle.turn.specs.declared.Totals.{Totals}
 use Rattle.turn.specs.declared.Cursor.{Cursor}
 use Rattle.turn.specs.declared.Shown.{Shown}
@@ -17,6 +15,9 @@ use Rattle.turn.specs.declared.Step.{Step}
 use Rattle.turn.specs.declared.Step.TheVariants.{First, Second, Changed, End}
 use Rattle.turn.specs.declared.Turn.{Turn}
 use Rattle.turn.specs.declared.Turn.TheVariants.{Tell, On}
+use Rattle.refusals.specs.declared.Rule.TheVariants.{BadRecord}
+use Rattle.refusals.specs.declared.Refusal.{Refusal}
+use Rattle.turn.specs.declared.Which.{Which}
 
 -- ---- totals
 
@@ -38,9 +39,14 @@ one_changed t = record { first = t.first; second = t.second; same = t.same; chan
 
 -- ---- a name
 
--- 17, beside the number of the book that met it
-abbrev pub refused_by : ℕ → Step
-refused_by k = Step.Refused k (refusal_of 17)
+-- the number of a book
+abbrev pub which_number : Which → ℕ
+which_number Which.First = 1
+which_number Which.Second = 2
+
+-- 17, beside the book that met it
+abbrev pub refused_by : Which → Result Step (Which × Refusal)
+refused_by k = Err (k, refusal_of BadRecord)
 
 abbrev pub both_at : Walk → Walk → Totals → Cursor
 both_at w₁ w₂ t = record { first = w₁; second = w₂; totals = t }
@@ -53,21 +59,21 @@ shown_at s book w e = record { report = report_at s book w.chunk e; own = own_at
 abbrev pub same_at : Place → Place → Bool
 same_at x y = x.section == y.section && (x.offset == y.offset && x.size == y.size)
 
-abbrev pub on_coming : {A : Type 0} → Coming → A → A → (Place → Walk → A) → A
-on_coming (Coming.Refused n) barred end f = barred
-on_coming Coming.End barred end f = end
-on_coming (Entry e w) barred end f = f e w
+abbrev pub on_coming : {A : Type 0} → Result (Option (Place × Walk)) Refusal → A → A → (Place → Walk → A) → A
+on_coming (Err n) barred end f = barred
+on_coming (Ok None) barred end f = end
+on_coming (Ok (Some (e, w))) barred end f = f e w
 
 -- a name that is only in one book: told, and counted
 abbrev pub turn_only_first : List ℕ → Record → Place → Walk → Walk → Totals → Turn
-turn_only_first s book x v₁ w₂ t = Tell (First (shown_at s book v₁ x) (both_at (after_of v₁ x) w₂ (one_first t)))
+turn_only_first s book x v₁ w₂ t = Tell (Ok (First (shown_at s book v₁ x) (both_at (after_of v₁ x) w₂ (one_first t))))
 
 abbrev pub turn_only_second : List ℕ → Record → Walk → Place → Walk → Totals → Turn
-turn_only_second s book w₁ y v₂ t = Tell (Second (shown_at s book v₂ y) (both_at w₁ (after_of v₂ y) (one_second t)))
+turn_only_second s book w₁ y v₂ t = Tell (Ok (Second (shown_at s book v₂ y) (both_at w₁ (after_of v₂ y) (one_second t))))
 
 -- the first book is at its end
 unfoldable pub behind_first : List ℕ → Record → Walk → Walk → Totals → Turn
-behind_first s₂ b₂ w₁ w₂ t = on_coming (coming_at s₂ b₂ w₂) (Tell (refused_by 2)) (Tell (End t)) (λ y v₂. turn_only_second s₂ b₂ w₁ y v₂ t)
+behind_first s₂ b₂ w₁ w₂ t = on_coming (coming_at s₂ b₂ w₂) (Tell (refused_by Which.Second)) (Tell (Ok (End t))) (λ y v₂. turn_only_second s₂ b₂ w₁ y v₂ t)
 
 module _ (s₁ : List ℕ) (b₁ : Record) (s₂ : List ℕ) (b₂ : Record) where
   -- a name that is in both: told where its numbers are others
@@ -75,7 +81,7 @@ module _ (s₁ : List ℕ) (b₁ : Record) (s₂ : List ℕ) (b₂ : Record) whe
   in_both x v₁ y v₂ t =
       cond (same_at x y)
       (On (both_at (after_of v₁ x) (after_of v₂ y) (one_same t)))
-      (Tell (Changed (shown_at s₁ b₁ v₁ x) (shown_at s₂ b₂ v₂ y) (both_at (after_of v₁ x) (after_of v₂ y) (one_changed t))))
+      (Tell (Ok (Changed (shown_at s₁ b₁ v₁ x) (shown_at s₂ b₂ v₂ y) (both_at (after_of v₁ x) (after_of v₂ y) (one_changed t)))))
 
   -- both books have an entry, x and y: the one whose name comes first is taken, or both. What is not taken stays inside its chunk
   unfoldable pub paired : Place → Walk → Place → Walk → Totals → Turn
@@ -85,12 +91,12 @@ module _ (s₁ : List ℕ) (b₁ : Record) (s₂ : List ℕ) (b₂ : Record) whe
 
   -- the first book has an entry, x
   unfoldable pub beside_first : Place → Walk → Walk → Totals → Turn
-  beside_first x v₁ w₂ t = on_coming (coming_at s₂ b₂ w₂) (Tell (refused_by 2)) (turn_only_first s₁ b₁ x v₁ w₂ t) (λ y v₂. paired x v₁ y v₂ t)
+  beside_first x v₁ w₂ t = on_coming (coming_at s₂ b₂ w₂) (Tell (refused_by Which.Second)) (turn_only_first s₁ b₁ x v₁ w₂ t) (λ y v₂. paired x v₁ y v₂ t)
 
   -- one name: the first book is asked first
   unfoldable pub turned : Cursor → Turn
   turned at =
-      on_coming (coming_at s₁ b₁ at.first) (Tell (refused_by 1))
+      on_coming (coming_at s₁ b₁ at.first) (Tell (refused_by Which.First))
       (behind_first s₂ b₂ at.first at.second at.totals)
       (λ x v₁. beside_first x v₁ at.second at.totals)
 
@@ -101,9 +107,9 @@ abbrev pub load : Cursor → ℕ
 load at = weight at.first + weight at.second
 
 -- a step that takes entries: it hands back a cursor with less to come than n, or none
-abbrev pub Lighter : ℕ → Step → Type 0
-Lighter n (First x a) = load a < n
-Lighter n (Second y a) = load a < n
-Lighter n (Changed x y a) = load a < n
-Lighter n (End t) = Unit {0}
-Lighter n (Step.Refused k r) = Unit {0}
+abbrev pub Lighter : ℕ → Result Step (Which × Refusal) → Type 0
+Lighter n (Ok (First x a)) = load a < n
+Lighter n (Ok (Second y a)) = load a < n
+Lighter n (Ok (Changed x y a)) = load a < n
+Lighter n (Ok (End t)) = Unit {0}
+Lighter n (Err (k, r)) = Unit {0}

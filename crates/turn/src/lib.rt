@@ -2,14 +2,14 @@
 #![tactic(auto)]
 
 ghost use Rattle.std.specs.Prelude.{◌≡◌};
-ghost use Rattle.turn.specs.Turn.{one_more, one_first, one_second, one_same, one_changed, refused_by, shown_at, same_at, turn_only_first, turn_only_second, in_both, paired, behind_first, beside_first, turned};
+ghost use Rattle.turn.specs.Turn.{which_number, one_more, one_first, one_second, one_same, one_changed, refused_by, shown_at, same_at, turn_only_first, turn_only_second, in_both, paired, behind_first, beside_first, turned};
 
 use entries::Place;
 use header::Record;
-use names::Order;
-use refusals::Refusal;
+use refusals::{Refusal, Rule};
 use report::{Own, Report};
-use walk::{Coming, Walk};
+use std::cmp::Ordering;
+use walk::Walk;
 
 // How many names were only in the first book, only in the second, in both with the same numbers, in both with others; modulo 2^64.
 #[derive(Clone, Copy)]
@@ -35,21 +35,39 @@ pub struct Shown {
     pub own: Own,
 }
 
-// What a step gives: a difference with the cursor behind it, the end with the totals, or a refusal beside the number of its book.
+// What a step gives: a difference with the cursor behind it, or the end with the totals.
 #[derive(Clone, Copy)]
 pub enum Step {
     First(Shown, Cursor),
     Second(Shown, Cursor),
     Changed(Shown, Shown, Cursor),
     End(Totals),
-    Refused(u8, Refusal),
 }
+
+// One of the two books.
+#[derive(Clone, Copy)]
+pub enum Which {
+    First = 1,
+    Second = 2,
+}
+
+// A refusal, beside the book that met it.
+pub type BookRefusal = (Which, Refusal);
 
 // What one name gives: a step's answer, or nothing to tell, and the cursor behind it.
 #[derive(Clone, Copy)]
 pub enum Turn {
-    Tell(Step),
+    Tell(Result<Step, BookRefusal>),
     On(Cursor),
+}
+
+impl Which {
+    // The number of the book.
+    pub fn number(self) -> u8
+        ensures { result ≡ which_number self }
+    {
+        self as u8
+    }
 }
 
 // One more, modulo 2^64.
@@ -65,9 +83,7 @@ fn one_first(t: Totals) -> Totals
 {
     Totals {
         first: one_more(t.first),
-        second: t.second,
-        same: t.same,
-        changed: t.changed,
+        ..t
     }
 }
 
@@ -76,10 +92,8 @@ fn one_second(t: Totals) -> Totals
     ensures { result ≡ one_second t }
 {
     Totals {
-        first: t.first,
         second: one_more(t.second),
-        same: t.same,
-        changed: t.changed,
+        ..t
     }
 }
 
@@ -88,10 +102,8 @@ pub fn one_same(t: Totals) -> Totals
     ensures { result ≡ one_same t }
 {
     Totals {
-        first: t.first,
-        second: t.second,
         same: one_more(t.same),
-        changed: t.changed,
+        ..t
     }
 }
 
@@ -100,10 +112,8 @@ fn one_changed(t: Totals) -> Totals
     ensures { result ≡ one_changed t }
 {
     Totals {
-        first: t.first,
-        second: t.second,
-        same: t.same,
         changed: one_more(t.changed),
+        ..t
     }
 }
 
@@ -131,27 +141,27 @@ pub fn same_at(x: Place, y: Place) -> bool
 }
 
 // The refusal of a book that cannot be read further.
-fn refused_by(book: u8) -> Step
+fn refused_by(book: Which) -> Result<Step, BookRefusal>
     ensures { result ≡ refused_by book }
 {
-    Step::Refused(book, refusals::refuse(17))
+    Err((book, refusals::refuse(Rule::BadRecord)))
 }
 
-// A name that is only in the first book.
+// A name that is only in the first book. This and `only_second` stay two: which walk goes on, which total grows and which step is told all differ.
 fn only_first(file: &[u8], book: Record, x: Place, v: Walk, w: Walk, t: Totals) -> Turn
     ensures { result ≡ turn_only_first file.now book x v w t }
 {
     let item = show(file, book, v, x);
     let first = v.after(x);
     let totals = one_first(t);
-    Turn::Tell(Step::First(
+    Turn::Tell(Ok(Step::First(
         item,
         Cursor {
             first,
             second: w,
             totals,
         },
-    ))
+    )))
 }
 
 // A name that is only in the second book.
@@ -161,14 +171,14 @@ fn only_second(file: &[u8], book: Record, w: Walk, y: Place, v: Walk, t: Totals)
     let item = show(file, book, v, y);
     let second = v.after(y);
     let totals = one_second(t);
-    Turn::Tell(Step::Second(
+    Turn::Tell(Ok(Step::Second(
         item,
         Cursor {
             first: w,
             second,
             totals,
         },
-    ))
+    )))
 }
 
 // A name that is in both books.
@@ -198,7 +208,7 @@ fn in_both(
     let a = show(file1, one, v1, x);
     let b = show(file2, two, v2, y);
     let totals = one_changed(t);
-    Turn::Tell(Step::Changed(
+    Turn::Tell(Ok(Step::Changed(
         a,
         b,
         Cursor {
@@ -206,7 +216,7 @@ fn in_both(
             second,
             totals,
         },
-    ))
+    )))
 }
 
 // Both books have an entry: x in the first, y in the second.
@@ -224,9 +234,9 @@ fn paired(
     ensures { result ≡ paired file1.now one file2.now two x v1 y v2 t }
 {
     match names::compare(v1.name(file1, one, x), v2.name(file2, two, y)) {
-        Order::Less => only_first(file1, one, x, v1, v2, t),
-        Order::Equal => in_both(file1, one, x, v1, file2, two, y, v2, t),
-        Order::Greater => only_second(file2, two, v1, y, v2, t),
+        Ordering::Less => only_first(file1, one, x, v1, v2, t),
+        Ordering::Equal => in_both(file1, one, x, v1, file2, two, y, v2, t),
+        Ordering::Greater => only_second(file2, two, v1, y, v2, t),
     }
 }
 
@@ -235,9 +245,9 @@ fn behind_first(file2: &[u8], two: Record, w1: Walk, w2: Walk, t: Totals) -> Tur
     ensures { result ≡ behind_first file2.now two w1 w2 t }
 {
     match w2.peek(file2, two) {
-        Coming::Refused(_) => Turn::Tell(refused_by(2)),
-        Coming::End => Turn::Tell(Step::End(t)),
-        Coming::Entry(y, v2) => only_second(file2, two, w1, y, v2, t),
+        Err(_) => Turn::Tell(refused_by(Which::Second)),
+        Ok(None) => Turn::Tell(Ok(Step::End(t))),
+        Ok(Some((y, v2))) => only_second(file2, two, w1, y, v2, t),
     }
 }
 
@@ -255,9 +265,9 @@ fn beside_first(
     ensures { result ≡ beside_first file1.now one file2.now two x v1 w2 t }
 {
     match w2.peek(file2, two) {
-        Coming::Refused(_) => Turn::Tell(refused_by(2)),
-        Coming::End => only_first(file1, one, x, v1, w2, t),
-        Coming::Entry(y, v2) => paired(file1, one, x, v1, file2, two, y, v2, t),
+        Err(_) => Turn::Tell(refused_by(Which::Second)),
+        Ok(None) => only_first(file1, one, x, v1, w2, t),
+        Ok(Some((y, v2))) => paired(file1, one, x, v1, file2, two, y, v2, t),
     }
 }
 
@@ -269,8 +279,8 @@ pub fn take_turn(file1: &[u8], one: Record, file2: &[u8], two: Record, at: Curso
     let second = at.second;
     let totals = at.totals;
     match first.peek(file1, one) {
-        Coming::Refused(_) => Turn::Tell(refused_by(1)),
-        Coming::End => behind_first(file2, two, first, second, totals),
-        Coming::Entry(x, v1) => beside_first(file1, one, x, v1, file2, two, second, totals),
+        Err(_) => Turn::Tell(refused_by(Which::First)),
+        Ok(None) => behind_first(file2, two, first, second, totals),
+        Ok(Some((x, v1))) => beside_first(file1, one, x, v1, file2, two, second, totals),
     }
 }

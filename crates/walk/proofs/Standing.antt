@@ -1,11 +1,10 @@
 -- What a walk reads from its start is what stands along the chain of its book, whatever the bytes and the record are: `walk_exact`.
-use Rattle.fields.proofs.Base.{◌≡◌, refl, sym, subst, ◌∙◌, Bool, true, false, cond, List, [], ◌∷◌, ◌++◌, map, ℕ, zero, suc, ◌-◌, ◌≤◌, ◌<◌, arith, length, eqb, lt-ltb, le-ltb}
+use Rattle.fields.proofs.Base.{◌≡◌, refl, sym, subst, ◌∙◌, Bool, true, false, cond, List, [], ◌∷◌, ◌++◌, map, ℕ, zero, suc, ◌-◌, ◌≤◌, ◌<◌, arith, length, eqb, lt-ltb, le-ltb, Some, None, Ok, Err}
 use Rattle.fields.proofs.Tests.{and_yes, and_no}
 use Rattle.fields.proofs.Parts.{part_inside}
-use Rattle.refusals.specs.Refusals.{no_chunk}
+use Rattle.refusals.specs.Refusals.{no_chunk, refusal_of}
 use Rattle.entries.specs.Entry.{item_at, Entry, entry_of}
 use Rattle.entries.specs.declared.Place.{Place}
-use Rattle.entries.specs.declared.Item.TheVariants.{Good}
 use Rattle.entries.proofs.Laws.{item_inside}
 use Rattle.entries.specs.declared.Kind.TheVariants.{Listing}
 use Rattle.chunk.specs.Chunk.{all, entries_at, entries_in}
@@ -22,8 +21,8 @@ use Rattle.report.proofs.Reported.{read_reported, read_owned}
 use Rattle.walk.specs.Walk.{walk_start, in_chunk, after_of, is_over, coming_at, name_here}
 use Rattle.walk.specs.Exact.{reading_of, Comes, Reads, WalkExact}
 use Rattle.walk.specs.declared.Walk.{Walk}
-use Rattle.walk.specs.declared.Entered.TheVariants.{Inside, Over, Barred}
 use Rattle.walk.proofs.Entering.{enter_inside, enter_over, enter_none, enter_barred, enter_chunk, peek_unfit, peek_entered, peek_here}
+use Rattle.refusals.specs.declared.Rule.TheVariants.{BadRecord}
 
 module _ (s : List ℕ) (book : Record) where
   -- at which the same comes next reads the same
@@ -36,7 +35,7 @@ module _ (s : List ℕ) (book : Record) where
     -- ---- inside a chunk
 
     comes : (w : Walk) (p : Place) → 0 < w.left → is_listing (directory_of s book w.chunk) ≡ true
-        → item_at (limits_of s book) Listing (chunk_bytes s book w.chunk) w.at ≡ Good p
+        → item_at (limits_of s book) Listing (chunk_bytes s book w.chunk) w.at ≡ Some p
         → Comes s book w w p (held_at w.chunk (entry_of (chunk_bytes s book w.chunk) p))
     unfolding name_here
     comes w p l is h =
@@ -84,15 +83,15 @@ module _ (s : List ℕ) (book : Record) where
     -- at the chain's end, and at what cannot be entered
     read_over : (w : Walk) → w.left ≡ 0 → is_over book w ≡ true → ReadsAll w ended
     unfolding Reads
-    read_over w l o = peek_entered s book w fits Over (enter_over s book w (omega arith) o)
+    read_over w l o = peek_entered s book w fits (Ok None) (enter_over s book w (omega arith) o)
 
     read_none : (w : Walk) → w.left ≡ 0 → is_over book w ≡ false → w.more ≡ 0 → ReadsAll w cut
     unfolding Reads
-    read_none w l o m = peek_entered s book w fits Barred (enter_none s book w (omega arith) o (omega arith))
+    read_none w l o m = peek_entered s book w fits (Err (refusal_of BadRecord)) (enter_none s book w (omega arith) o (omega arith))
 
     read_barred : (w : Walk) → w.left ≡ 0 → is_over book w ≡ false → listing_chunk (directory_of s book) (shape_of book) w.next ≡ false → ReadsAll w cut
     unfolding Reads
-    read_barred w l o b = peek_entered s book w fits Barred (enter_barred s book w (omega arith) o b)
+    read_barred w l o b = peek_entered s book w fits (Err (refusal_of BadRecord)) (enter_barred s book w (omega arith) o b)
 
     -- the chunk that follows, and what is read behind it
     read_chunk : (n : ℕ) (w : Walk) → w.left ≡ 0 → is_over book w ≡ false → w.more ≡ suc n → listing_chunk (directory_of s book) (shape_of book) w.next ≡ true
@@ -104,8 +103,8 @@ module _ (s : List ℕ) (book : Record) where
         let is = (listing_chunk_lem (directory_of s book) (shape_of book) c b).1 in
         let es = entries_in (directory_of s book c) in
         let v : Walk = in_chunk c (directory_of s book c) (w.more - 1) in
-        let here = peek_entered s book w fits (Inside v) (enter_chunk s book w (omega arith) o (omega arith) b) in
-        let still = peek_entered s book v fits (Inside v) (enter_inside s book v (entries_some s book c is)) in
+        let here = peek_entered s book w fits (Ok (Some v)) (enter_chunk s book w (omega arith) o (omega arith) b) in
+        let still = peek_entered s book v fits (Ok (Some v)) (enter_inside s book v (entries_some s book c is)) in
         let r : Reading = cond (eqb (next_of (directory_of s book c)) no_chunk) ended (read_from (directory_of s book) (shape_of book) n (next_of (directory_of s book c))) in
         moved w v _ _ (here ∙ sym still)
         (inside r.entries r.whole (next_of (directory_of s book c)) n more (length es) v es refl refl (omega arith) is (entries_read s book c is))

@@ -3,13 +3,14 @@
 
 ghost use Rattle.std.specs.Prelude.{◌≡◌, List, ℕ};
 ghost use Rattle.refusals.specs.Refusals.{refusal_of};
+ghost use Rattle.refusals.specs.declared.Rule.TheVariants.{BadRecord};
 ghost use Rattle.walk.specs.Walk.{walk_start, is_over, entered, entry_here, coming_at, after_of, name_here};
 ghost use Rattle.walk.specs.Exact.{WalkExact};
 
 use chunk::Chunk;
-use entries::{Item, Kind, Place};
+use entries::{Kind, Place};
 use header::Record;
-use refusals::Refusal;
+use refusals::{Refusal, Rule};
 
 // The chunk that is being read, the place of its next entry and how many entries are left in it; the chunk that follows, and how many chunks may still be entered.
 #[derive(Clone, Copy)]
@@ -21,27 +22,14 @@ pub struct Walk {
     pub more: u64,
 }
 
-// Where a walk comes to before it reads: inside a chunk, at the chain's end, or at a chunk that cannot be entered.
-#[derive(Clone, Copy)]
-enum Entered {
-    Inside(Walk),
-    Over,
-    Barred,
-}
-
-// What comes next: an entry, with the walk inside its chunk; the end; or a refusal.
-#[derive(Clone, Copy)]
-pub enum Coming {
-    Entry(Place, Walk),
-    End,
-    Refused(Refusal),
-}
+// What comes next: an entry, with the walk inside its chunk; or the end, for which there is none.
+pub type Coming = Result<Option<(Place, Walk)>, Refusal>;
 
 // The refusal of a record, a chunk or an entry that cannot be read.
 fn no_reading() -> Refusal
-    ensures { result ≡ refusal_of 17 }
+    ensures { result ≡ refusal_of BadRecord }
 {
-    refusals::refuse(17)
+    refusals::refuse(Rule::BadRecord)
 }
 
 // Whether a chunk was entered and none follows it.
@@ -55,33 +43,31 @@ fn is_over(w: Walk, book: Record) -> bool
     }
 }
 
-// The walk inside its chunk: the one that is being read, or the one that follows, which is checked.
-fn enter(w: Walk, file: &[u8], book: Record) -> Entered
+// The walk inside its chunk, the one that is being read or the one that follows, which is checked; none at the chain's end.
+fn enter(w: Walk, file: &[u8], book: Record) -> Result<Option<Walk>, Refusal>
     ensures { result ≡ entered file.now book w }
 {
     if 0 < w.left {
-        return Entered::Inside(w);
+        return Ok(Some(w));
     }
     if is_over(w, book) {
-        return Entered::Over;
+        return Ok(None);
     }
     if w.more < 1 {
-        return Entered::Barred;
+        return Err(no_reading());
     }
-    let next = match book::checked_chunk(file, book, w.next) {
-        Chunk::Listing(_, next) => next as u64,
-        Chunk::Index => return Entered::Barred,
-        Chunk::Refused(_) => return Entered::Barred,
+    let Ok(Chunk::Listing(_, next)) = book::checked_chunk(file, book, w.next) else {
+        return Err(no_reading());
     };
     let at = chunk_fields::first_place(Kind::Listing) as u64;
     let left = chunk_fields::entry_count(book::chunk_bytes(file, book, w.next)) as u64;
-    Entered::Inside(Walk {
+    Ok(Some(Walk {
         chunk: w.next,
         at,
         left,
-        next,
+        next: next as u64,
         more: w.more - 1,
-    })
+    }))
 }
 
 // The entry at a walk inside a chunk.
@@ -91,8 +77,8 @@ fn entry_here(w: Walk, file: &[u8], book: Record) -> Coming
     let limits = book::limits(file, book);
     let c = book::chunk_bytes(file, book, w.chunk);
     match entries::listing_at(c, w.at as usize, limits.content) {
-        Item::Good(e) => Coming::Entry(e, w),
-        Item::Bad => Coming::Refused(no_reading()),
+        Some(e) => Ok(Some((e, w))),
+        None => Err(no_reading()),
     }
 }
 
@@ -116,12 +102,11 @@ impl Walk {
         ensures { result ≡ coming_at file.now book self }
     {
         if !book::record_fits(file, book) {
-            return Coming::Refused(no_reading());
+            return Err(no_reading());
         }
-        match enter(self, file, book) {
-            Entered::Inside(w) => entry_here(w, file, book),
-            Entered::Over => Coming::End,
-            Entered::Barred => Coming::Refused(no_reading()),
+        match enter(self, file, book)? {
+            Some(w) => entry_here(w, file, book),
+            None => Ok(None),
         }
     }
 

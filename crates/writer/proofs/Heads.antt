@@ -1,5 +1,5 @@
 -- The whole head, from its parts (`head_written`), and the writer's answers.
-use Rattle.fields.proofs.Base.{◌≡◌, refl, sym, ap, subst, ◌∙◌, Bool, true, false, ◌&&◌, List, [], ◌++◌, map, flatten, append_assoc, ℕ, ◌+◌, ◌-◌, ◌*◌, ◌^◌, ◌≤◌, ◌<◌, min, arith, length, get_or, take, drop, length-append, length-map, sets, take_at, ltb, leb, le-leb, lt-leb, leb-true}
+use Rattle.fields.proofs.Base.{◌≡◌, refl, sym, ap, subst, ◌∙◌, Bool, true, false, ◌&&◌, List, [], ◌++◌, map, flatten, append_assoc, ℕ, ◌+◌, ◌-◌, ◌*◌, ◌^◌, ◌≤◌, ◌<◌, min, arith, length, get_or, take, drop, length-append, length-map, sets, take_at, ltb, leb, le-leb, lt-leb, leb-true, Result, Ok, Err}
 use Rattle.put.proofs.Put.{sets_parts}
 use Rattle.fields.proofs.Tests.{and_both, and_no}
 use Rattle.entries.specs.declared.Kind.TheVariants.{Listing, Index}
@@ -20,11 +20,11 @@ use Rattle.roundtrip.specs.RoundTrip.{new_book, RoundTrip}
 use Rattle.roundtrip.proofs.RoundTrips.{round_trip}
 use Rattle.writer.specs.Head.{written, output_for, RoundTripFor, ShortInput}
 use Rattle.writer.specs.Plan.{in_bounds, LevelsPlanned, LevelFits, IndexFits, index_of, headers_of, Ready}
-use Rattle.writer.specs.declared.Written.{Written}
-use Rattle.writer.specs.declared.Written.TheVariants.{Length, Refused}
 use Rattle.layout.proofs.Sizes.{length_file, length_section, length_directory}
 use Rattle.fields.proofs.Lists.{flatten_append}
 use Rattle.writer.proofs.Lengths.{length_level}
+use Rattle.refusals.specs.declared.Rule.TheVariants.{BadInput, TooManyChunks, ShortOutput}
+use Rattle.refusals.specs.declared.Refusal.{Refusal}
 
 -- ---- the parts
 
@@ -137,7 +137,7 @@ module _ (s : List ℕ) (density time language content : ℕ) (out : List ℕ) w
   abbrev head : List ℕ
   head = head_bytes density time language content (layout_for density content s)
 
-  abbrev Answers : Written → List ℕ → Type 0
+  abbrev Answers : Result ℕ Refusal → List ℕ → Type 0
   Answers r o =
       record {
         answer : r ≡ written s density content room;
@@ -146,22 +146,22 @@ module _ (s : List ℕ) (density time language content : ℕ) (out : List ℕ) w
         input : ShortInput r content s;
       }
 
-  pub answer_18 : (r : Written) → r ≡ Refused (refusal_of 18) → takes density content s ≡ false → Answers r out
+  pub answer_18 : (r : Result ℕ Refusal) → r ≡ Err (refusal_of BadInput) → takes density content s ≡ false → Answers r out
   unfolding written
   answer_18 r e h = rw e (record { answer = rw h; output = refl; round_trip = tt; input = tt })
 
-  pub answer_19 : (r : Written) → r ≡ Refused (refusal_of 19) → takes density content s ≡ true → small_enough (layout_for density content s) ≡ false → Answers r out
+  pub answer_19 : (r : Result ℕ Refusal) → r ≡ Err (refusal_of TooManyChunks) → takes density content s ≡ true → small_enough (layout_for density content s) ≡ false → Answers r out
   unfolding written
   answer_19 r e h k = rw e (record { answer = rw (h, k); output = refl; round_trip = tt; input = tt })
 
   module _ (h : takes density content s ≡ true) (small : small_enough (layout_for density content s) ≡ true) (count : ℕ) (c : count ≡ chunk_count (layout_for density content s)) where
-    pub answer_20 : (r : Written) → r ≡ Refused (refusal_of 20) → room < head_length count → Answers r out
+    pub answer_20 : (r : Result ℕ Refusal) → r ≡ Err (refusal_of ShortOutput) → room < head_length count → Answers r out
     unfolding written
     answer_20 r e short = rw e (record { answer = rw (h, small, ← c, lt-leb (head_length count) room short); output = refl; round_trip = tt; input = tt })
 
     -- the head with content behind it, by the round trip
     worth : time < 2 ^ 32 → language < 2 ^ 32 → (o : List ℕ) → o ≡ head ++ drop (head_length count) out → length head ≡ head_length count
-        → RoundTripFor (Length (head_length count)) density time language content s o
+        → RoundTripFor (Ok (head_length count)) density time language content s o
     worth t g o w lh = λ rest e.
         let front : take (head_length count) o ≡ head = ap (take (head_length count)) w ∙ take_at head (drop (head_length count) out) (head_length count) lh in
         let l = layout_for density content s in
@@ -173,7 +173,7 @@ module _ (s : List ℕ) (density time language content : ℕ) (out : List ℕ) w
         subst (RoundTrip density time language l es) file (round_trip density time language es gs rest t g cut small)
 
     pub answer_head : ((i : ℕ) → get_or s i 0 < 256) → time < 2 ^ 32 → language < 2 ^ 32 → (o : List ℕ) → head_length count ≤ room → length head ≡ head_length count → o ≡ sets out 0 head
-        → Answers (Length (head_length count)) o
+        → Answers (Ok (head_length count)) o
     unfolding written
     answer_head b t g o enough lh w =
         let z : 0 + length head ≡ head_length count = omega arith in

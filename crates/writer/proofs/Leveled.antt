@@ -1,9 +1,8 @@
 -- The loop that writes one level: before each chunk (`Leveled`), and what a turn leaves. The cursor is at `here` with
 -- `left` that may be taken, and chunk j comes next; at first it was at `base` with `all`.
-use Rattle.fields.proofs.Base.{◌≡◌, refl, sym, ap, ◌∙◌, List, [], map, flatten, ℕ, ◌+◌, ◌*◌, ◌≤◌, ◌<◌, arith, length, take, sets}
+use Rattle.fields.proofs.Base.{◌≡◌, refl, sym, ap, ◌∙◌, List, [], map, flatten, ℕ, ◌+◌, ◌*◌, ◌≤◌, ◌<◌, arith, length, take, sets, Some}
 use Rattle.put.proofs.Put.{sets_after}
 use Rattle.entries.specs.declared.Place.{Place}
-use Rattle.entries.specs.declared.Item.TheVariants.{Good}
 use Rattle.entries.specs.declared.Kind.{Kind}
 use Rattle.entries.specs.Stored.{stored_of}
 use Rattle.source.specs.Source.{item_from, rows_from}
@@ -41,7 +40,7 @@ module _ (content : ℕ) (s starts : List ℕ) (k : Kind) (n m all base end : �
         let z = chunks_none content s (take end starts) k n left here q in
         (omega (arith, ap length z, p.rest), ap (λ (gs : List (List Place)). sets out (204 + 4096 * j) (bytes_of j gs)) (sym z) ∙ p.whole)
 
-    module _ (e : Place) (some : 0 < left) (q : item_from content s (take end starts) k here ≡ Good e) where
+    module _ (e : Place) (some : 0 < left) (q : item_from content s (take end starts) k here ≡ Some e) where
       -- one chunk more has room
       pub leveled_room : LevelFits content s starts k n all base end (length out₀) → (204 + 4096 * (j + 1) ≤ length out) × (j < 4096)
       leveled_room f =

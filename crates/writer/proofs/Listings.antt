@@ -1,12 +1,11 @@
 -- The loop that reads the input: before each entry (`Reading`), and what a turn leaves. The next entry is at `here`, and `left` may be taken; the
 -- name before it is the `len` bytes at `from`, and f has the chunks so far.
-use Rattle.fields.proofs.Base.{◌≡◌, refl, sym, ap, ◌∙◌, Bool, true, false, cond, ◌&&◌, List, [], ◌∷◌, map, ℕ, ◌+◌, ◌-◌, ◌*◌, ◌^◌, ◌≤◌, ◌<◌, arith, add-one, length, take, set, length-set, sets, eqb, lt-leb, eq-eqb, ne_eqb}
+use Rattle.fields.proofs.Base.{◌≡◌, refl, sym, ap, ◌∙◌, Bool, true, false, cond, ◌&&◌, List, [], ◌∷◌, map, ℕ, ◌+◌, ◌-◌, ◌*◌, ◌^◌, ◌≤◌, ◌<◌, arith, add-one, length, take, set, length-set, sets, eqb, lt-leb, eq-eqb, ne_eqb, Some}
 use Rattle.fields.specs.Part.{part}
 use Rattle.fields.proofs.Tests.{and_no}
 use Rattle.names.specs.Names.{below}
 use Rattle.entries.specs.Entry.{listing_at, name_of}
 use Rattle.entries.specs.declared.Place.{Place}
-use Rattle.entries.specs.declared.Item.TheVariants.{Good}
 use Rattle.entries.specs.declared.Kind.TheVariants.{Listing}
 use Rattle.chunk_fields.specs.ChunkFields.{first_place, quick_count}
 use Rattle.entries.proofs.Laws.{listing_inside}
@@ -88,7 +87,7 @@ module _ (content : ℕ) (s : List ℕ) (n : ℕ) (starts₀ : List ℕ) where
       pub reading_short : (here ≡ length s → ⊥) → input_right content s ≡ false
       reading_short h = right_here ∙ ne_eqb here (length s) h
 
-    module _ (e : Place) (some : 0 < left) (q : listing_at content s here ≡ Good e) where
+    module _ (e : Place) (some : 0 < left) (q : listing_at content s here ≡ Some e) where
       right_entry : input_right content s ≡ (unpadded s e && (below (part s from len) (name_of s e) && passes s e.next (name_of s e) (ahead content s (left - 1) e.next)))
       right_entry = sym p.right ∙ passes_more content s left here (part s from len) e some q
 

@@ -1,9 +1,8 @@
 -- The loop that plans one index level: before each chunk (`Planning`), and what a turn leaves. The cursor is at `here` with
 -- `left` that may be taken, and chunk j comes next.
-use Rattle.fields.proofs.Base.{◌≡◌, refl, sym, ap, ◌∙◌, List, [], ◌∷◌, map, ℕ, ◌+◌, ◌-◌, ◌≤◌, ◌<◌, arith, add-one, length, take, set, length-set, sets}
+use Rattle.fields.proofs.Base.{◌≡◌, refl, sym, ap, ◌∙◌, List, [], ◌∷◌, map, ℕ, ◌+◌, ◌-◌, ◌≤◌, ◌<◌, arith, add-one, length, take, set, length-set, sets, Some}
 use lib.Seq.{take-set-le}
 use Rattle.entries.specs.declared.Place.{Place}
-use Rattle.entries.specs.declared.Item.TheVariants.{Good}
 use Rattle.entries.specs.declared.Kind.TheVariants.{Index}
 use Rattle.source.specs.Source.{item_from, rows_from}
 use Rattle.pack.specs.Fill.{extent_from}
@@ -39,7 +38,7 @@ module _ (content : ℕ) (s : List ℕ) (n base end : ℕ) (starts₀ : List ℕ
           over = λ o. absurd (omega (arith, p.room));
         }
 
-    module _ (e : Place) (some : 0 < left) (q : item_from content s (take end starts₀) Index here ≡ Good e) where
+    module _ (e : Place) (some : 0 < left) (q : item_from content s (take end starts₀) Index here ≡ Some e) where
       pub planning_over : length starts ≤ j → LevelPlanned content s n base end starts₀ starts (length starts + 1)
       planning_over h =
           let m = chunks_more content s (take end starts₀) Index n left here e (extent_from Index n 0 0 here left (rows_from content s (take end starts₀) Index left here)) some q refl in

@@ -1,5 +1,5 @@
 -- What the parts of the writer's code ask for and leave.
-use Rattle.std.specs.Prelude.{ℕ, ◌+◌, ◌-◌, ◌^◌, ◌≤◌, ◌<◌, ◌≡◌, Bool, true, false, cond, ◌&&◌, length, take, set, ltb, leb}
+use Rattle.std.specs.Prelude.{◌⊎◌, ℕ, ◌+◌, ◌-◌, ◌^◌, ◌≤◌, ◌<◌, ◌≡◌, Bool, true, false, cond, ◌&&◌, length, take, set, ltb, leb, Option, Some, None, Result, Ok, Err}
 use mathlib.Core.List.{List, [], ◌∷◌, ◌++◌, map, flatten}
 use Rattle.std.proofs.lemmas.List.Edits.{sets}
 use Rattle.entries.specs.declared.Place.{Place}
@@ -12,10 +12,9 @@ use Rattle.pack.specs.Starts.{chunks_from, first_at, AllStarts}
 use Rattle.layout.specs.Headers.{head_length, file_header, section_zero, directory_header}
 use Rattle.layout.specs.Layout.{Layout, layout_of, chunk_count, layout_depth, small_enough, new_root, chunks_of}
 use Rattle.writer.specs.declared.Sizes.{Sizes}
-use Rattle.writer.specs.declared.Sizes.TheVariants.{Chunks, TooMany}
-use Rattle.writer.specs.declared.Leaves.{Leaves}
-use Rattle.writer.specs.declared.Leaves.TheVariants.{Count}
 use Rattle.writer.specs.declared.Open.{Open}
+use Rattle.refusals.specs.declared.Rule.TheVariants.{BadInput, TooManyChunks}
+use Rattle.refusals.specs.declared.Rule.{Rule}
 
 -- ---- what is asked of density and content length (W2)
 
@@ -51,9 +50,9 @@ pub record ListingLevel (content : ℕ) (s : List ℕ) (n : ℕ) (starts₀ star
   pub count : m ≡ length (chunks_from content s [] Listing n (length s) 0)
   pub places : starts ≡ sets starts₀ 0 (map first_at (chunks_from content s [] Listing n (length s) 0))
 
-abbrev pub ListingPlanned : ℕ → List ℕ → ℕ → List ℕ → List ℕ → Leaves → Type 0
-ListingPlanned content s n starts₀ starts (Count m) = ListingLevel content s n starts₀ starts m
-ListingPlanned content s n starts₀ starts Leaves.Bad = input_right content s ≡ false
+abbrev pub ListingPlanned : ℕ → List ℕ → ℕ → List ℕ → List ℕ → Option ℕ → Type 0
+ListingPlanned content s n starts₀ starts (Some m) = ListingLevel content s n starts₀ starts m
+ListingPlanned content s n starts₀ starts None = input_right content s ≡ false
 
 -- ---- an index level that is planned: its chunks are numbered from `end` on; r is the number behind the last
 
@@ -73,10 +72,11 @@ pub record LevelsPlanned (s starts : List ℕ) (l : Layout) (m depth count : ℕ
   pub flat : depth ≤ 5
   pub named : AllStarts s starts 0 (l.leaves ∷ l.levels)
 
-abbrev pub Planned : ℕ → List ℕ → ℕ → List ℕ → Sizes → Type 0
-Planned content s n starts (Chunks m depth count) = (input_right content s ≡ true) × LevelsPlanned s starts (layout_of n (given content s)) m depth count
-Planned content s n starts TooMany = (input_right content s ≡ true) × (small_enough (layout_of n (given content s)) ≡ false)
-Planned content s n starts Sizes.Bad = input_right content s ≡ false
+abbrev pub Planned : ℕ → List ℕ → ℕ → List ℕ → Result Sizes Rule → Type 0
+Planned content s n starts (Ok z) = (input_right content s ≡ true) × LevelsPlanned s starts (layout_of n (given content s)) z.listings z.depth z.count
+Planned content s n starts (Err r) =
+    ((r ≡ TooManyChunks) × (input_right content s ≡ true) × (small_enough (layout_of n (given content s)) ≡ false))
+    ⊎ ((r ≡ BadInput) × (input_right content s ≡ false))
 
 -- ---- room for a level, and for all index levels
 

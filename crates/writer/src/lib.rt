@@ -20,17 +20,10 @@ ghost use Rattle.layout.specs.Layout.{layout_of, layout_for, new_previous, new_n
 ghost use Rattle.writer.specs.Head.{written, output_for, RoundTripFor, ShortInput};
 ghost use Rattle.writer.specs.Plan.{in_bounds, Next, open_with, starts_with, ListingPlanned, LevelPlanned, Planned, LevelFits, IndexFits, index_of, headers_of, Ready};
 
-use entries::{Item, Kind, Place};
+use entries::{Kind, Place};
 use pack::Extent;
-use refusals::Refusal;
+use refusals::{Refusal, Rule};
 use source::Cursor;
-
-// The length of the head that was written, or a refusal: 18, 19 or 20.
-#[derive(Clone, Copy)]
-pub enum Written {
-    Length(u64),
-    Refused(Refusal),
-}
 
 // The listing chunks so far, as the input is read: their number, and the entries of the last one with their bytes.
 #[derive(Clone, Copy)]
@@ -40,20 +33,12 @@ struct Open {
     bytes: usize,
 }
 
-// The number of listing chunks; or the input is not one that the writer takes.
+// What is known of the chunks before any is written: the number of listing chunks, the depth, the number of all chunks.
 #[derive(Clone, Copy)]
-enum Leaves {
-    Count(usize),
-    Bad,
-}
-
-// What is known of the chunks before any is written: the number of listing chunks, the depth, the number of all chunks. Or there are too many.
-// Or the input is not one that the writer takes.
-#[derive(Clone, Copy)]
-enum Sizes {
-    Chunks(usize, usize, usize),
-    TooMany,
-    Bad,
+struct Sizes {
+    listings: usize,
+    depth: usize,
+    count: usize,
 }
 
 // Whether the writer takes a density and a content length.
@@ -105,22 +90,22 @@ fn add(starts: &mut [usize], n: usize, f: Open, e: Place, size: usize) -> Open
 
 // The entry of the input at a place; bad where no more may be taken, or no good entry stands there. It is `source::step` for a listing level alone: small
 // enough for the compiler to put it into the loop.
-fn given_at(input: &[u8], content: u64, at: usize, left: usize) -> Item
+fn given_at(input: &[u8], content: u64, at: usize, left: usize) -> Option<Place>
     ensures { result ≡ taken_of left (listing_at content input.now at) }
 {
     if left == 0 {
-        return Item::Bad;
+        return None;
     }
     entries::listing_at(input, at, content)
 }
 
 // Checks the input and plans the listing level, in one pass: the input is one good entry or more, one directly behind another to its end, none padded,
-// with names that rise. Too many chunks are counted on, since a fault of the input goes before them.
-fn plan_listing(input: &[u8], content: u64, n: usize, starts: &mut [usize]) -> Leaves
+// with names that rise; else there is no number of listing chunks. Too many chunks are counted on, since a fault of the input goes before them.
+fn plan_listing(input: &[u8], content: u64, n: usize, starts: &mut [usize]) -> Option<usize>
     ensures { ListingPlanned content input.now n starts.old starts.new result }
 {
     if input.len() == 0 {
-        return Leaves::Bad;
+        return None;
     }
     let mut at: usize = 0;
     let mut left = input.len();
@@ -133,18 +118,18 @@ fn plan_listing(input: &[u8], content: u64, n: usize, starts: &mut [usize]) -> L
         bytes: 4096,
     };
     loop {
-        let Item::Good(e) = given_at(input, content, at, left) else {
+        let Some(e) = given_at(input, content, at, left) else {
             if at == input.len() {
-                return Leaves::Count(f.chunks);
+                return Some(f.chunks);
             }
-            return Leaves::Bad;
+            return None;
         };
         let size = pack::entry_size(Kind::Listing, e);
         if e.next - e.at != size {
-            return Leaves::Bad;
+            return None;
         }
         if !rises(input, from, len, e.start, e.len) {
-            return Leaves::Bad;
+            return None;
         }
         f = add(starts, n, f, e, size);
         from = e.start;
@@ -155,7 +140,7 @@ fn plan_listing(input: &[u8], content: u64, n: usize, starts: &mut [usize]) -> L
 }
 
 // Stores the places of the first names of the chunks of an index level, which are numbered from `end` on; `starts` has those of the chunks before.
-// Returns the number behind the last; one more than `starts` has, where it has too few.
+// Returns the number behind the last; one more than `starts` has, where it has too few. No `for`: how many chunks there are is known when the entries end.
 fn plan_level(
     input: &[u8],
     content: u64,
@@ -175,7 +160,7 @@ fn plan_level(
     };
     let mut j = end;
     loop {
-        let Item::Good(e) = source::step(input, &starts[..end], content, c) else {
+        let Some(e) = source::step(input, &starts[..end], content, c) else {
             return j;
         };
         if starts.len() <= j {
@@ -194,32 +179,36 @@ fn plan_level(
 
 // Checks the input and plans all levels: the listing chunks, then index levels until one has a single chunk. `starts` then has the place of
 // each chunk's first name.
-fn plan(input: &[u8], content: u64, n: usize, starts: &mut [usize]) -> Sizes
+fn plan(input: &[u8], content: u64, n: usize, starts: &mut [usize]) -> Result<Sizes, Rule>
     requires { length starts.old ≡ 4096 }
     ensures { Planned content input.now n starts.new result }
 {
-    let Leaves::Count(m) = plan_listing(input, content, n, starts) else {
-        return Sizes::Bad;
+    let Some(m) = plan_listing(input, content, n, starts) else {
+        return Err(Rule::BadInput);
     };
     if starts.len() < m {
-        return Sizes::TooMany;
+        return Err(Rule::TooManyChunks);
     }
     let mut depth: usize = 1;
     let mut base: usize = 0;
     let mut end = m;
     while 1 < end - base {
         if depth == 5 {
-            return Sizes::TooMany;
+            return Err(Rule::TooManyChunks);
         }
         let next = plan_level(input, content, n, starts, base, end);
         if starts.len() < next {
-            return Sizes::TooMany;
+            return Err(Rule::TooManyChunks);
         }
         base = end;
         end = next;
         depth += 1;
     }
-    Sizes::Chunks(m, depth, end)
+    Ok(Sizes {
+        listings: m,
+        depth,
+        count: end,
+    })
 }
 
 // Writes chunk c, whose first entry is at a cursor; m is the number of listing chunks.
@@ -249,7 +238,7 @@ fn put_chunk(
     )
 }
 
-// Writes the chunks of a level, whose first entry is at a cursor and which are numbered from `end` on; returns the number behind the last.
+// Writes the chunks of a level, whose first entry is at a cursor and which are numbered from `end` on; returns the number behind the last. No `for`, as there.
 fn put_level(
     out: &mut [u8],
     input: &[u8],
@@ -267,7 +256,7 @@ fn put_level(
     let mut c = from;
     let mut j = end;
     loop {
-        let Item::Good(_) = source::step(input, &starts[..end], content, c) else {
+        let Some(_) = source::step(input, &starts[..end], content, c) else {
             return j;
         };
         let f = put_chunk(out, input, &starts[..end], content, c, n, m, j);
@@ -447,7 +436,7 @@ fn put_head(
     put_index(out, entries, starts, content, n, m as u32);
 }
 
-// Writes the head of a book with these entries, one directly behind another, and content of that length; returns the head's length.
+// Writes the head of a book with these entries, one directly behind another, and content of that length; returns the head's length, or refusal 18, 19 or 20.
 pub fn write_head(
     entries: &[u8],
     density: u32,
@@ -455,40 +444,34 @@ pub fn write_head(
     language: u32,
     content_length: u64,
     out: &mut [u8],
-) -> Written
+) -> Result<u64, Refusal>
     ensures answer { result ≡ written entries.now density content_length (length out.old) }
     ensures output { out.new ≡ output_for result (head_bytes density time language content_length (layout_for density content_length entries.now)) out.old }
     ensures round_trip { RoundTripFor result density time language content_length entries.now out.new }
     ensures input { ShortInput result content_length entries.now }
 {
     if !is_taken(density, content_length) {
-        return Written::Refused(refusals::refuse(18));
+        return Err(refusals::refuse(Rule::BadInput));
     }
     let n = chunk_fields::spacing(density as u64);
     let mut starts = [0usize; 4096];
-    let shape = plan(entries, content_length, n, &mut starts);
-    match shape {
-        Sizes::Bad => Written::Refused(refusals::refuse(18)),
-        Sizes::TooMany => Written::Refused(refusals::refuse(19)),
-        Sizes::Chunks(m, depth, count) => {
-            let len = 204 + 4096 * count;
-            if out.len() < len {
-                return Written::Refused(refusals::refuse(20));
-            }
-            put_head(
-                out,
-                entries,
-                &starts,
-                n,
-                density,
-                time,
-                language,
-                content_length,
-                m,
-                depth,
-                count,
-            );
-            Written::Length(len as u64)
-        }
+    let shape = plan(entries, content_length, n, &mut starts)?;
+    let len = 204 + 4096 * shape.count;
+    if out.len() < len {
+        return Err(refusals::refuse(Rule::ShortOutput));
     }
+    put_head(
+        out,
+        entries,
+        &starts,
+        n,
+        density,
+        time,
+        language,
+        content_length,
+        shape.listings,
+        shape.depth,
+        shape.count,
+    );
+    Ok(len as u64)
 }

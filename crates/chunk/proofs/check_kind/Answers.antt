@@ -1,9 +1,10 @@
-use Rattle.fields.proofs.Base.{lt-ltb, le-ltb, le-leb, lt-leb, ◌≡◌, refl, sym, ap, ◌∙◌, cond, ◌&&◌, arith, div-le_self, ℕ, ◌+◌, ◌-◌, ◌*◌, ◌<◌, ltb, leb}
+use Rattle.fields.proofs.Base.{lt-ltb, le-ltb, le-leb, lt-leb, ◌≡◌, refl, sym, ap, ◌∙◌, cond, ◌&&◌, arith, ℕ, ◌+◌, ◌-◌, ◌*◌, ◌<◌, ltb, leb}
 use Rattle.chunk.specs.Chunk.{bad, entries_at, checked_entries, parsed_as}
 use Rattle.chunk_fields.specs.ChunkFields.{first_place, quick_count, spacing_of, entry_count}
-use Rattle.chunk.proofs.Frame.{head_small, framed_as, parsed_capped}
+use Rattle.chunk.proofs.Frame.{framed_as, parsed_capped}
 use Rattle.chunk.proofs.check_kind.Goals.{After-tail_length-tail}
 use Rattle.chunk.proofs.check_kind.Goals as goal
+use Rattle.refusals.specs.declared.Rule.TheVariants.{ChunkFrame}
 
 -- the chunk's meaning over the numbers that were read, with its quick words and its header's length
 whole : (c : After-tail_length-tail) (q h : ℕ) → q ≡ quick_count c.spacing-n.result c.entry_count-total.result
@@ -11,7 +12,7 @@ whole : (c : After-tail_length-tail) (q h : ℕ) → q ≡ quick_count c.spacing
     → let a = c.args in
     let n = c.spacing-n.result in let k = c.entry_count-total.result in let t = c.tail_length-tail.result in
     parsed_as (spacing_of a.limits.density) a.limits a.kind a.c.now
-    ≡ cond (ltb 0 k && (leb (2 + 2 * q) t && leb t (4096 - h))) (checked_entries n a.kind a.c.now (entries_at a.limits a.kind a.c.now (4096 - t) k (first_place a.kind))) (bad 9)
+    ≡ cond (ltb 0 k && (leb (2 + 2 * q) t && leb t (4096 - h))) (checked_entries n a.kind a.c.now (entries_at a.limits a.kind a.c.now (4096 - t) k (first_place a.kind))) (bad ChunkFrame)
 whole c q h eq eh =
     let a = c.args in
     let n = c.spacing-n in
@@ -24,19 +25,10 @@ pub returns-then-total-lt1 : goal.returns-then-total-lt1
 returns-then-total-lt1 c =
     simp (whole (goal.at.returns-then-total-lt1 c).After-tail_length-tail _ _ refl refl, le-ltb 0 c.entry_count-total.result (omega arith))
 
-pub overflow_mul-quick_words : goal.overflow_mul-quick_words
-overflow_mul-quick_words c = omega (arith, c.quick_words.ensures, div-le_self (c.entry_count-total.result - 1) c.spacing-n.result)
-
-pub overflow_add-quick_words : goal.overflow_add-quick_words
-overflow_add-quick_words c = omega (arith, c.quick_words.ensures, div-le_self (c.entry_count-total.result - 1) c.spacing-n.result)
-
 pub returns-then-tail-quick_words : goal.returns-then-tail-quick_words
 returns-then-tail-quick_words c =
     let q = c.quick_words.result in
     simp (whole (goal.at.returns-then-tail-quick_words c).After-tail_length-tail q _ c.quick_words.ensures refl, lt-ltb 0 c.entry_count-total.result (omega arith), lt-leb (2 + 2 * q) c.tail_length-tail.result (omega arith))
-
-pub overflow_sub-first_place : goal.overflow_sub-first_place
-overflow_sub-first_place c = rw c.first_place.ensures (omega (arith, head_small c.args.kind))
 
 pub returns-then-first_place-tail : goal.returns-then-first_place-tail
 returns-then-first_place-tail c =

@@ -22,10 +22,10 @@ turn_is : (c : After-one_same-totals) → let a = c.args in
 turn_is c =
     let same_is : SameEntries (limits_of c.args.file1.now c.args.one).content (chunk_bytes c.args.file1.now c.args.one c.loop-first.first.chunk) c.loop-first.first.at
     (limits_of c.args.file2.now c.args.two).content (chunk_bytes c.args.file2.now c.args.two c.loop-first.second.chunk) c.loop-first.second.at
-    c.in-Both.x c.in-Both.y =
+    c.in-Some.x c.in-Some.y =
     rw (← c.loop-first.invariant.0, ← c.loop-first.invariant.1, ← c.limits-limits1.ensures, ← c.limits-limits2.ensures)
     (subst (SameTold c.limits-limits1.result.content c.chunk_bytes-c1.result.now c.loop-first.first.at
-    c.limits-limits2.result.content c.chunk_bytes-c2.result.now c.loop-first.second.at) c.in-Both.is c.same_entries.ensures) in
+    c.limits-limits2.result.content c.chunk_bytes-c2.result.now c.loop-first.second.at) c.in-Some.is c.same_entries.ensures) in
     rw (c.one_same-totals.ensures, c.after-first.ensures, c.after-second.ensures)
     (same_passed c.args.file1.now c.args.one c.args.file2.now c.args.two c.requires.one_value c.requires.two_value
     c.loop-first.first c.loop-first.second c.loop-first.totals _ _ (omega (arith, c.loop-first-test.true)) (omega (arith, c.if-second-lt1.false)) same_is)
@@ -45,12 +45,3 @@ loop-first-preserved c =
       rw (after_chunk c.loop-first.second _ _ c.after-second.ensures) c.loop-first.invariant.1,
       passed_more a.file1.now a.one a.file2.now a.two _ (both_at c.loop-first.first c.loop-first.second c.loop-first.totals) _ c.loop-first.invariant.2 (turn_is (goal.at.loop-first-preserved c).After-one_same-totals),
     )
-
-pub returns-after-loop-first : goal.returns-after-loop-first
-returns-after-loop-first c = c.loop-first.invariant.2
-
-pub returns-then-second-lt1 : goal.returns-then-second-lt1
-returns-then-second-lt1 c = c.loop-first.invariant.2
-
-pub returns-in_default : goal.returns-in_default
-returns-in_default c = c.loop-first.invariant.2

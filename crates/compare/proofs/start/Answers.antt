@@ -1,7 +1,6 @@
-use Rattle.fields.proofs.Base.{◌≡◌, sym, subst, List, ℕ}
+use Rattle.fields.proofs.Base.{◌≡◌, sym, subst, List, ℕ, Ok}
 use Rattle.header.specs.declared.Record.{Record}
 use Rattle.opening.specs.Opened.{opened}
-use Rattle.opening.specs.declared.Opened.TheVariants.{Book}
 use Rattle.turn.specs.declared.Cursor.{Cursor}
 use Rattle.compare.specs.Compare.{compare_start}
 use Rattle.compare.specs.Compared.{ComparisonExact, BooksCompared}
@@ -13,7 +12,7 @@ promised : (one two : Record) (at : Cursor) → at ≡ compare_start one two
     → record {
       answer : at ≡ compare_start one two;
       exact : (s₁ s₂ : List ℕ) → ComparisonExact s₁ one s₂ two at;
-      opened : (s₁ s₂ : List ℕ) → opened s₁ ≡ Book one → opened s₂ ≡ Book two → BooksCompared s₁ one s₂ two at;
+      opened : (s₁ s₂ : List ℕ) → opened s₁ ≡ Ok one → opened s₂ ≡ Ok two → BooksCompared s₁ one s₂ two at;
     }
 promised one two at e = record {
   answer = e;

@@ -1,12 +1,10 @@
-use Rattle.fields.proofs.Base.{◌≡◌, refl, sym, ap, subst, ◌∙◌, ◌≢◌, List, ℕ, arith}
+use Rattle.fields.proofs.Base.{◌≡◌, sym, ap, subst, ◌∙◌, ◌≢◌, List, ℕ, arith, Result, Ok, Err}
 use Rattle.refusals.specs.declared.Refusal.{Refusal}
 use Rattle.header.specs.declared.Record.{Record}
 use Rattle.opening.specs.Opened.{opened}
-use Rattle.opening.specs.declared.Opened.TheVariants.{Book}
 use Rattle.turn.specs.Turn.{turned, load, Lighter}
 use Rattle.turn.specs.declared.Cursor.{Cursor}
 use Rattle.turn.specs.declared.Step.{Step}
-use Rattle.turn.specs.declared.Step.TheVariants.{Refused}
 use Rattle.turn.specs.declared.Turn.TheVariants.{On}
 use Rattle.turn.proofs.Falling.{turn_falls}
 use Rattle.compare.specs.Compare.{compare_start, compare_step}
@@ -15,13 +13,14 @@ use Rattle.compare.proofs.Stepping.{step_falls}
 use Rattle.compare.proofs.Passing.{step_past, step_told}
 use Rattle.compare.proofs.Compared.{books_compared}
 use Rattle.compare.proofs.step.Goals as goal
+use Rattle.turn.specs.declared.Which.{Which}
 
 -- a step has what its contract says beside the equation
-promised : (s₁ : List ℕ) (b₁ : Record) (s₂ : List ℕ) (b₂ : Record) (at : Cursor) (x : Step) → x ≡ compare_step s₁ b₁ s₂ b₂ at
+promised : (s₁ : List ℕ) (b₁ : Record) (s₂ : List ℕ) (b₂ : Record) (at : Cursor) (x : Result Step (Which × Refusal)) → x ≡ compare_step s₁ b₁ s₂ b₂ at
     → record {
       answer : x ≡ compare_step s₁ b₁ s₂ b₂ at;
       ends : Lighter (load at) x;
-      opened : opened s₁ ≡ Book b₁ → opened s₂ ≡ Book b₂ → (n : ℕ) → at ≡ after_steps s₁ b₁ s₂ b₂ n (compare_start b₁ b₂) → (k : ℕ) (r : Refusal) → x ≢ Refused k r;
+      opened : opened s₁ ≡ Ok b₁ → opened s₂ ≡ Ok b₂ → (n : ℕ) → at ≡ after_steps s₁ b₁ s₂ b₂ n (compare_start b₁ b₂) → (k : Which) (r : Refusal) → x ≢ Err (k, r);
     }
 promised s₁ b₁ s₂ b₂ at x e =
     record {
@@ -29,9 +28,6 @@ promised s₁ b₁ s₂ b₂ at x e =
       ends = subst (Lighter (load at)) (sym e) (step_falls s₁ b₁ s₂ b₂ at);
       opened = λ o₁ o₂ n q k r h. (books_compared s₁ b₁ s₂ b₂ o₁ o₂).never_refused n k r (sym (ap (compare_step s₁ b₁ s₂ b₂) q) ∙ sym e ∙ h);
     }
-
-pub loop-step-init : goal.loop-step-init
-loop-step-init c = refl
 
 pub returns-in-Tell : goal.returns-in-Tell
 returns-in-Tell c = let a = c.args in

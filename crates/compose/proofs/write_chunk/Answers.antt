@@ -13,8 +13,9 @@ pub returns-then-out-ne4096 : goal.returns-then-out-ne4096
 returns-then-out-ne4096 c = record { answer = c.fill.ensures; written = other_size _ _ c.if-out-ne4096.true }
 
 pub put_entries-f-requires : goal.put_entries-f-requires
-put_entries-f-requires c = let z = c.clear in
-    (z.auto.out ∙ c.if-out-ne4096.false, z.ensures ∙ ap (λ (m : ℕ). replicate {A = ℕ} m 0) (sym z.auto.out))
+put_entries-f-requires c = let z = c.fill-2 in
+    let e = z.ensures.after (λ y same. same) in
+    (z.auto.self ∙ c.if-out-ne4096.false, e ∙ ap (λ (m : ℕ). replicate {A = ℕ} m 0) (sym z.auto.self))
 
 pub put_frame-requires : goal.put_frame-requires
 put_frame-requires c =
@@ -22,7 +23,7 @@ put_frame-requires c =
     Told a.content a.input.now a.starts.now a.from.kind a.from.left a.from.at a.n c.put_entries-f.result c.put_entries-f.ensures.0 =
     extent_told _ _ _ _ _ _ _ _ _ in
     let t = told in
-    (c.put_entries-f.auto.out ∙ c.clear.auto.out ∙ c.if-out-ne4096.false, omega (arith, t.room), omega (arith, t.room, t.few))
+    (c.put_entries-f.auto.out ∙ c.fill-2.auto.self ∙ c.if-out-ne4096.false, omega (arith, t.room), omega (arith, t.room, t.few))
 
 pub returns : goal.returns
 returns c = let p = c.put_entries-f in

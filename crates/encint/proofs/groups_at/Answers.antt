@@ -18,15 +18,6 @@ grown c =
 fits : (c : In-loop-i) → (let l = c.loop-i in l.v * 128 + get_or c.args.s.now l.i 0 % 128 < 2 ^ 63)
 fits c = small (c.args.at + 9 - c.loop-i.i - 1) _ (grown c)
 
-pub loop-i-init : goal.loop-i-init
-loop-i-init c = let a = c.args in
-    let z : a.at + 9 - a.at ≡ 9 = omega arith in
-    (omega arith, omega arith, rw z (omega arith), ap (λ (n : ℕ). rest n 0 a.at (drop a.at a.s.now)) (sym z))
-
-pub bounds-s-i : goal.bounds-s-i
-bounds-s-i c =
-    omega (arith, inside (goal.at.bounds-s-i c).In-loop-i)
-
 pub overflow_mul-v : goal.overflow_mul-v
 overflow_mul-v c =
     omega (arith, fits (goal.at.overflow_mul-v c).In-loop-i)
@@ -35,18 +26,11 @@ pub overflow_add-v : goal.overflow_add-v
 overflow_add-v c =
     omega (arith, fits (goal.at.overflow_add-v c).In-loop-i)
 
-pub overflow_add-i : goal.overflow_add-i
-overflow_add-i c =
-    omega (arith, inside (goal.at.overflow_add-i c).In-loop-i)
-
 pub returns-then-b-lt128 : goal.returns-then-b-lt128
 returns-then-b-lt128 c =
     let l = c.loop-i in
     let h = inside (goal.at.returns-then-b-lt128 c).In-loop-i in
     sym (l.invariant.3 ∙ turn_last _ _ l.v l.i h.1 h.0 (omega arith))
-
-pub loop-i-smaller : goal.loop-i-smaller
-loop-i-smaller c = omega arith
 
 pub loop-i-preserved : goal.loop-i-preserved
 loop-i-preserved c =

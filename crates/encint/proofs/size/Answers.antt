@@ -1,12 +1,9 @@
-use Rattle.fields.proofs.Base.{◌-◌, arith, rules}
+use Rattle.fields.proofs.Base.{◌-◌, arith}
 use Rattle.encint.proofs.Writing.{encoded_none, length_encoded, room, less_step, groups_step, groups_zero}
 use Rattle.encint.proofs.size.Goals as goal
 
 pub returns-then-v-gt9223372036854775807 : goal.returns-then-v-gt9223372036854775807
 returns-then-v-gt9223372036854775807 c = rw (encoded_none c.args.v (omega arith))
-
-pub loop-w-init : goal.loop-w-init
-loop-w-init c = (search rules, search rules, omega arith)
 
 pub loop-w-preserved : goal.loop-w-preserved
 loop-w-preserved c = let l = c.loop-w in

@@ -1,4 +1,4 @@
-use Rattle.fields.proofs.Base.{◌∙◌, arith, length-set}
+use Rattle.fields.proofs.Base.{◌∙◌, arith}
 use Rattle.encint.specs.Encint.{encoded}
 use Rattle.encint.proofs.Writing.{stored, wrote_none, wrote_outside, wrote_inside}
 use Rattle.encint.proofs.write.Goals as goal
@@ -11,9 +11,6 @@ returns-then-out-at c = let a = c.args in let w = wrote_outside a.out.now a.at (
 
 pub returns-then-out-at-2 : goal.returns-then-out-at-2
 returns-then-out-at-2 c = let a = c.args in let w = wrote_outside a.out.now a.at (encoded a.v) (omega arith) in record { count = w.0; bytes = w.1 }
-
-pub write_leading-requires : goal.write_leading-requires
-write_leading-requires c = rw length-set (omega arith)
 
 pub returns : goal.returns
 returns c = let n = c.size-n in

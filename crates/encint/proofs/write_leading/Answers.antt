@@ -1,9 +1,6 @@
-use Rattle.fields.proofs.Base.{refl, ◌∙◌, arith, rules, length-set}
+use Rattle.fields.proofs.Base.{◌∙◌, arith, rules, length-set}
 use Rattle.encint.proofs.Writing.{leading_turn, leading_end}
 use Rattle.encint.proofs.write_leading.Goals as goal
-
-pub loop-j-init : goal.loop-j-init
-loop-j-init c = (search rules, refl, refl)
 
 pub loop-j-preserved : goal.loop-j-preserved
 loop-j-preserved c = let l = c.loop-j in

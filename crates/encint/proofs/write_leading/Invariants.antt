@@ -5,6 +5,3 @@ use Rattle.encint.proofs.write_leading.Given as goal
 
 abbrev pub invariant-loop-j : goal.invariant-loop-j
 invariant-loop-j l = (l.j ≤ l.n) × (length l.out ≡ length l.initial.out) × (take l.at l.out ++ leading l.j l.x (drop (l.at + l.j) l.out) ≡ take l.at l.initial.out ++ leading l.n l.w (drop (l.at + l.n) l.initial.out))
-
-abbrev pub decreases-loop-j : goal.decreases-loop-j
-decreases-loop-j l = l.j

@@ -1,34 +1,23 @@
-use Rattle.fields.proofs.Base.{le-ltb, lt-ltb, ◌≡◌, sym, ◌∙◌, arith}
-use Rattle.entries.specs.Entry.{name_at, index_at}
-use Rattle.encint.specs.declared.Number.TheVariants.{Value}
+use Rattle.fields.proofs.Base.{le-ltb, lt-ltb, sym, arith}
+use Rattle.entries.specs.Entry.{index_at}
 use Rattle.entries.proofs.Laws.{name_next}
-use Rattle.entries.proofs.index_at.Goals.{In-Value}
 use Rattle.entries.proofs.index_at.Goals as goal
 
--- the name, in terms of the definitions
-name_is : (c : In-Value) → name_at c.args.c.now c.args.at ≡ Value c.in-Value.n c.in-Value.start
-name_is c = sym c.name_at.ensures ∙ c.in-Value.is
-
-pub returns-in_default : goal.returns-in_default
+pub returns-in_err-n : goal.returns-in_err-n
 unfolding index_at
-returns-in_default c = simp (sym c.name_at.ensures ∙ c.in_default.is)
+returns-in_err-n c = simp (c.from_residual.ensures, sym c.in_err-n.ensures)
 
 pub overflow_add-start : goal.overflow_add-start
-overflow_add-start c =
-    let h = name_next _ _ _ _ (name_is (goal.at.overflow_add-start c).In-Value) in
-    omega arith
+overflow_add-start c = let h = name_next _ _ _ _ (sym c.in_ok-n.ensures) in omega arith
 
-pub returns-in_default-read : goal.returns-in_default-read
+pub returns-in_err-child : goal.returns-in_err-child
 unfolding index_at
-returns-in_default-read c =
-    simp (name_is (goal.at.returns-in_default-read c).In-Value, sym c.read.ensures.number ∙ c.in_default-read.is)
+returns-in_err-child c = simp (c.from_residual-in_err-child.ensures, sym c.in_ok-n.ensures, sym c.in_err-child.ensures.number)
 
 pub returns-then-count-child : goal.returns-then-count-child
 unfolding index_at
-returns-then-count-child c =
-    simp (name_is (goal.at.returns-then-count-child c).In-Value, sym c.read.ensures.number ∙ c.in-Value-read.is, le-ltb _ _ c.if-count-child.true)
+returns-then-count-child c = simp (sym c.in_ok-n.ensures, sym c.in_ok-child.ensures.number, le-ltb _ _ c.if-count-child.true)
 
 pub returns : goal.returns
 unfolding index_at
-returns c =
-    simp (name_is (goal.at.returns c).In-Value, sym c.read.ensures.number ∙ c.in-Value-read.is, lt-ltb _ _ c.if-count-child.false)
+returns c = simp (sym c.in_ok-n.ensures, sym c.in_ok-child.ensures.number, lt-ltb _ _ c.if-count-child.false)

@@ -1,83 +1,84 @@
-use Rattle.fields.proofs.Base.{ℕ, List, le-ltb, lt-ltb, le-leb, lt-leb, ◌≡◌, sym, ◌∙◌, ◌&&◌, ◌||◌, cond, arith, ◌+◌, leb, ltb}
-use Rattle.entries.specs.Entry.{name_at, listing_at}
-use Rattle.encint.specs.Encint.{encint_at}
-use Rattle.encint.specs.declared.Number.TheVariants.{Value}
-use Rattle.entries.specs.declared.Item.TheVariants.{Good, Bad}
+use Rattle.fields.proofs.Base.{le-ltb, lt-ltb, le-leb, lt-leb, ◌≡◌, sym, ◌&&◌, ◌||◌, cond, arith, ◌+◌, leb, ltb, Some, None}
+use Rattle.entries.specs.Entry.{listing_at}
 use Rattle.entries.proofs.Laws.{name_next}
-use Rattle.entries.proofs.listing_at.Goals.{In-Value, In-Value-read, In-Value-read-2}
+use Rattle.entries.proofs.listing_at.Goals.{In_ok-size}
 use Rattle.entries.proofs.listing_at.Goals as goal
 
--- what was read, in terms of the definitions
-name_is : (c : In-Value) → name_at c.args.c.now c.args.at ≡ Value c.in-Value.n c.in-Value.start
-name_is c = sym c.name_at.ensures ∙ c.in-Value.is
-
-section_is : (c : In-Value-read) → encint_at c.args.c.now (c.in-Value.start + c.in-Value.n) ≡ Value c.in-Value-read.section c.in-Value-read.p1
-section_is c = sym c.read.ensures.number ∙ c.in-Value-read.is
-
-offset_is : (c : In-Value-read-2) → encint_at c.args.c.now c.in-Value-read.p1 ≡ Value c.in-Value-read-2.offset c.in-Value-read-2.p2
-offset_is c = sym c.read-2.ensures.number ∙ c.in-Value-read-2.is
-
 -- with all five numbers read, the two tests are left
-read_all : (content at n start section p1 offset p2 size next : ℕ) (s : List ℕ)
-    → name_at s at ≡ Value n start → encint_at s (start + n) ≡ Value section p1 → encint_at s p1 ≡ Value offset p2 → encint_at s p2 ≡ Value size next
-    → listing_at content s at
-    ≡ cond (leb section 65535 && (ltb 0 section || leb (offset + size) content))
-    (Good (record { at = at; start = start; len = n; section = section; offset = offset; size = size; child = 0; next = next }))
-    Bad
+tests_left : (c : In_ok-size) → let a = c.args in
+    listing_at a.content a.c.now a.at
+    ≡ cond (leb c.in_ok-section.section 65535 && (ltb 0 c.in_ok-section.section || leb (c.in_ok-offset.offset + c.in_ok-size.size) a.content))
+    (Some (record {
+      at = a.at;
+      start = c.in_ok-n.start;
+      len = c.in_ok-n.n;
+      section = c.in_ok-section.section;
+      offset = c.in_ok-offset.offset;
+      size = c.in_ok-size.size;
+      child = 0;
+      next = c.in_ok-size.next;
+    }))
+    None
 unfolding listing_at
-read_all content at n start section p1 offset p2 size next s name sec off sz = simp (name, sec, off, sz)
+tests_left c = simp (sym c.in_ok-n.ensures, sym c.in_ok-section.ensures.number, sym c.in_ok-offset.ensures.number, sym c.in_ok-size.ensures.number)
 
-pub returns-in_default : goal.returns-in_default
+pub returns-in_err-n : goal.returns-in_err-n
 unfolding listing_at
-returns-in_default c = simp (sym c.name_at.ensures ∙ c.in_default.is)
+returns-in_err-n c = simp (c.from_residual.ensures, sym c.in_err-n.ensures)
 
 pub overflow_add-start : goal.overflow_add-start
-overflow_add-start c =
-    let h = name_next _ _ _ _ (name_is (goal.at.overflow_add-start c).In-Value) in
-    omega arith
+overflow_add-start c = let h = name_next _ _ _ _ (sym c.in_ok-n.ensures) in omega arith
 
-pub returns-in_default-read : goal.returns-in_default-read
+pub returns-in_err-section : goal.returns-in_err-section
 unfolding listing_at
-returns-in_default-read c = simp (name_is (goal.at.returns-in_default-read c).In-Value, sym c.read.ensures.number ∙ c.in_default-read.is)
+returns-in_err-section c = simp (c.from_residual-in_err-section.ensures, sym c.in_ok-n.ensures, sym c.in_err-section.ensures.number)
 
-pub returns-in_default-read-2 : goal.returns-in_default-read-2
+pub returns-in_err-offset : goal.returns-in_err-offset
 unfolding listing_at
-returns-in_default-read-2 c =
-    let p = goal.at.returns-in_default-read-2 c in
-    simp (name_is p.In-Value, section_is p.In-Value-read, sym c.read-2.ensures.number ∙ c.in_default-read-2.is)
+returns-in_err-offset c =
+    simp (c.from_residual-in_err-offset.ensures, sym c.in_ok-n.ensures, sym c.in_ok-section.ensures.number, sym c.in_err-offset.ensures.number)
 
-pub returns-in_default-read-3 : goal.returns-in_default-read-3
+pub returns-in_err-size : goal.returns-in_err-size
 unfolding listing_at
-returns-in_default-read-3 c =
-    let p = goal.at.returns-in_default-read-3 c in
-    simp (name_is p.In-Value, section_is p.In-Value-read, offset_is p.In-Value-read-2, sym c.read-3.ensures.number ∙ c.in_default-read-3.is)
+returns-in_err-size c =
+    simp (
+      c.from_residual-in_err-size.ensures,
+      sym c.in_ok-n.ensures,
+      sym c.in_ok-section.ensures.number,
+      sym c.in_ok-offset.ensures.number,
+      sym c.in_err-size.ensures.number,
+    )
 
 pub returns-then-section-gt65535 : goal.returns-then-section-gt65535
-returns-then-section-gt65535 c =
-    let p = goal.at.returns-then-section-gt65535 c in
-    let r = read_all c.args.content c.args.at _ _ _ _ _ _ _ _ c.args.c.now (name_is p.In-Value) (section_is p.In-Value-read) (offset_is p.In-Value-read-2) (sym c.read-3.ensures.number ∙ c.in-Value-read-3.is) in
-    simp (r, lt-leb _ _ c.if-section-gt65535.true)
+returns-then-section-gt65535 c = simp (tests_left (goal.at.returns-then-section-gt65535 c).In_ok-size, lt-leb _ _ c.if-section-gt65535.true)
 
 pub returns-then-content-offset : goal.returns-then-content-offset
 returns-then-content-offset c =
-    let p = goal.at.returns-then-content-offset c in
-    let r = read_all c.args.content c.args.at _ _ _ _ _ _ _ _ c.args.c.now (name_is p.In-Value) (section_is p.In-Value-read) (offset_is p.In-Value-read-2) (sym c.read-3.ensures.number ∙ c.in-Value-read-3.is) in
-    simp (r, le-leb _ _ c.if-section-gt65535.false, le-ltb 0 c.in-Value-read.section (omega arith), lt-leb (c.in-Value-read-2.offset + c.in-Value-read-3.size) c.args.content (omega arith))
+    simp (
+      tests_left (goal.at.returns-then-content-offset c).In_ok-size,
+      le-leb _ _ c.if-section-gt65535.false,
+      le-ltb 0 c.in_ok-section.section (omega arith),
+      lt-leb (c.in_ok-offset.offset + c.in_ok-size.size) c.args.content (omega arith),
+    )
 
 pub returns-then-content-offset-2 : goal.returns-then-content-offset-2
 returns-then-content-offset-2 c =
-    let p = goal.at.returns-then-content-offset-2 c in
-    let r = read_all c.args.content c.args.at _ _ _ _ _ _ _ _ c.args.c.now (name_is p.In-Value) (section_is p.In-Value-read) (offset_is p.In-Value-read-2) (sym c.read-3.ensures.number ∙ c.in-Value-read-3.is) in
-    simp (r, le-leb _ _ c.if-section-gt65535.false, le-ltb 0 c.in-Value-read.section (omega arith), lt-leb (c.in-Value-read-2.offset + c.in-Value-read-3.size) c.args.content (omega arith))
+    simp (
+      tests_left (goal.at.returns-then-content-offset-2 c).In_ok-size,
+      le-leb _ _ c.if-section-gt65535.false,
+      le-ltb 0 c.in_ok-section.section (omega arith),
+      lt-leb (c.in_ok-offset.offset + c.in_ok-size.size) c.args.content (omega arith),
+    )
 
 pub returns-else-content-offset-2 : goal.returns-else-content-offset-2
 returns-else-content-offset-2 c =
-    let p = goal.at.returns-else-content-offset-2 c in
-    let r = read_all c.args.content c.args.at _ _ _ _ _ _ _ _ c.args.c.now (name_is p.In-Value) (section_is p.In-Value-read) (offset_is p.In-Value-read-2) (sym c.read-3.ensures.number ∙ c.in-Value-read-3.is) in
-    simp (r, le-leb _ _ c.if-section-gt65535.false, le-ltb 0 c.in-Value-read.section (omega arith), le-leb (c.in-Value-read-2.offset + c.in-Value-read-3.size) c.args.content (omega arith))
+    simp (
+      tests_left (goal.at.returns-else-content-offset-2 c).In_ok-size,
+      le-leb _ _ c.if-section-gt65535.false,
+      le-ltb 0 c.in_ok-section.section (omega arith),
+      le-leb (c.in_ok-offset.offset + c.in_ok-size.size) c.args.content (omega arith),
+    )
 
 pub returns-else-section-lt1 : goal.returns-else-section-lt1
 returns-else-section-lt1 c =
-    let p = goal.at.returns-else-section-lt1 c in
-    let r = read_all c.args.content c.args.at _ _ _ _ _ _ _ _ c.args.c.now (name_is p.In-Value) (section_is p.In-Value-read) (offset_is p.In-Value-read-2) (sym c.read-3.ensures.number ∙ c.in-Value-read-3.is) in
-    simp (r, le-leb _ _ c.if-section-gt65535.false, lt-ltb 0 _ c.if-section-lt1.false)
+    simp (tests_left (goal.at.returns-else-section-lt1 c).In_ok-size, le-leb _ _ c.if-section-gt65535.false, lt-ltb 0 _ c.if-section-lt1.false)

@@ -1,6 +1,5 @@
-use Rattle.fields.proofs.Base.{sym, ap, ◌∙◌}
+use Rattle.fields.proofs.Base.{sym, ap, ◌∙◌, Err}
 use Rattle.book.proofs.Laws.{fits_told}
-use Rattle.lookup.specs.declared.Reply.TheVariants.{Refused}
 use Rattle.lookup.proofs.Replies.{replied_name, replied_record, replied_search}
 use Rattle.fetch.specs.Fetch.{fetched}
 use Rattle.fetch.proofs.Agreed.{promised}
@@ -10,13 +9,13 @@ pub returns-then-not-is_askable : goal.returns-then-not-is_askable
 unfolding fetched
 returns-then-not-is_askable c = let a = c.args in
     promised a.file.now a.book a.name.now _
-    (ap (λ x. Refused x) c.refuse.ensures ∙ sym (replied_name a.file.now a.book a.name.now _ (sym c.is_askable.ensures ∙ c.if-not-is_askable.true)))
+    (ap (λ x. Err x) c.refuse.ensures ∙ sym (replied_name a.file.now a.book a.name.now _ (sym c.is_askable.ensures ∙ c.if-not-is_askable.true)))
 
 pub returns-then-not-record_fits : goal.returns-then-not-record_fits
 unfolding fetched
 returns-then-not-record_fits c = let a = c.args in
     promised a.file.now a.book a.name.now _
-    (ap (λ x. Refused x) c.refuse-then-not-record_fits.ensures
+    (ap (λ x. Err x) c.refuse-then-not-record_fits.ensures
     ∙ sym (replied_record a.file.now a.book a.name.now _ (sym c.is_askable.ensures ∙ c.if-not-is_askable.false) (sym c.record_fits.ensures ∙ c.if-not-record_fits.true)))
 
 pub fetch_from-requires : goal.fetch_from-requires

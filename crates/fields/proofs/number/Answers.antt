@@ -1,32 +1,24 @@
 use Rattle.fields.proofs.Base.{◌≡◌, sym, ◌∙◌, ◌<◌, ◌-◌, ◌+◌, ◌^◌, arith, rules}
 use Rattle.fields.specs.Le.{le}
 use Rattle.fields.proofs.Le.{le_below, le_lt, le_down, le_none, le_all}
+use Rattle.fields.proofs.number.Goals.{In-loop-i}
 use Rattle.fields.proofs.number.Goals as goal
 
 pub loop-i-init : goal.loop-i-init
 loop-i-init c = (search rules, sym (le_none _ _ _))
 
-pub overflow_sub-i : goal.overflow_sub-i
-overflow_sub-i c = omega arith
+-- a byte less is read than fit eight
+small : (c : In-loop-i) → c.loop-i.v < 256 ^ 7
+small c =
+    let l = c.loop-i in
+    let a = c.args in
+    rw l.invariant.1 (le_below a.s.now (λ j. (c.type_inv.s j).fits) (a.k - l.i) 7 (a.at + l.i) (omega arith))
 
 pub overflow_mul-v : goal.overflow_mul-v
-overflow_mul-v c =
-    let small : c.loop-i.v < 256 ^ 7 =
-    let l = c.loop-i in
-    let a = c.args in
-    rw l.invariant.1 (le_below a.s.now (λ j. (c.type_inv.s j).fits) (a.k - l.i) 7 (a.at + l.i) (omega arith)) in
-    omega (arith, small)
+overflow_mul-v c = let b = small (goal.at.overflow_mul-v c).In-loop-i in omega (arith, b)
 
 pub overflow_add-v : goal.overflow_add-v
-overflow_add-v c =
-    let small : c.loop-i.v < 256 ^ 7 =
-    let l = c.loop-i in
-    let a = c.args in
-    rw l.invariant.1 (le_below a.s.now (λ j. (c.type_inv.s j).fits) (a.k - l.i) 7 (a.at + l.i) (omega arith)) in
-    omega (arith, small)
-
-pub loop-i-smaller : goal.loop-i-smaller
-loop-i-smaller c = omega arith
+overflow_add-v c = let b = small (goal.at.overflow_add-v c).In-loop-i in omega (arith, b)
 
 pub loop-i-preserved : goal.loop-i-preserved
 loop-i-preserved c = let l = c.loop-i in

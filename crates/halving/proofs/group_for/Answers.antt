@@ -1,4 +1,4 @@
-use Rattle.fields.proofs.Base.{◌≡◌, refl, ap, ◌∙◌, ℕ, ◌-◌, ◌*◌, ◌/◌, ◌≤◌, ◌<◌, min, le-div_iff_mul-le, div-le_self, arith, length}
+use Rattle.fields.proofs.Base.{◌≡◌, refl, ap, ◌∙◌, ℕ, ◌-◌, ◌*◌, ◌/◌, ◌<◌, min, div-le_self, arith, length}
 use Rattle.names.specs.Names.{compared}
 use Rattle.chunk_fields.specs.ChunkFields.{entry_count, spacing_of, count_place}
 use Rattle.chunk.proofs.Quick.{capped}
@@ -6,6 +6,7 @@ use Rattle.quickref.specs.Quickref.{group_at}
 use Rattle.halving.specs.Halving.{group_above, halved, group_in, size_in}
 use Rattle.halving.specs.Halvings.{halvings, halvings_in}
 use Rattle.halving.proofs.Capped.{group_none, capped_group, capped_size, counted}
+use Rattle.halving.proofs.group_for.Goals.{Else-total-eq0}
 use Rattle.halving.proofs.group_for.Goals as goal
 
 pub returns-then-total-eq0 : goal.returns-then-total-eq0
@@ -14,32 +15,16 @@ returns-then-total-eq0 c = let a = c.args in
     let z = group_none a.limits a.kind a.c.now (compared a.name.now) (omega (arith, c.entry_count-total.ensures)) in
     rw (z.0, z.1) (c.first_place.ensures, omega (arith, c.entry_count-total.ensures), refl)
 
-pub overflow_sub-total : goal.overflow_sub-total
-overflow_sub-total c = omega arith
+-- a chunk that has a count has its bytes
+has_count : (c : Else-total-eq0) → count_place < length c.args.c.now
+has_count c = counted c.args.c.now (omega (arith, c.entry_count-total.ensures, c.if-total-eq0.false))
 
 pub group_of-left-requires : goal.group_of-left-requires
 group_of-left-requires c =
-    let has_count : count_place < length c.args.c.now =
-    counted c.args.c.now (omega (arith, c.entry_count-total.ensures, c.if-total-eq0.false)) in
-    (omega (arith, div-le_self (c.entry_count-total.result - 1) c.spacing-n.result), has_count)
+    (omega (arith, div-le_self (c.entry_count-total.result - 1) c.spacing-n.result), has_count (goal.at.group_of-left-requires c).Else-total-eq0)
 
 pub group_place-requires : goal.group_place-requires
-group_place-requires c =
-    let has_count : count_place < length c.args.c.now =
-    counted c.args.c.now (omega (arith, c.entry_count-total.ensures, c.if-total-eq0.false)) in
-    has_count
-
-pub overflow_mul-left : goal.overflow_mul-left
-overflow_mul-left c =
-    let inside : c.group_of-left.result.group * c.spacing-n.result ≤ c.entry_count-total.result - 1 =
-    (le-div_iff_mul-le {k = c.spacing-n.result} (omega (arith, c.spacing-n.ensures))).0 c.group_of-left.ensures.2 in
-    omega (arith, inside)
-
-pub overflow_sub-total-2 : goal.overflow_sub-total-2
-overflow_sub-total-2 c =
-    let inside : c.group_of-left.result.group * c.spacing-n.result ≤ c.entry_count-total.result - 1 =
-    (le-div_iff_mul-le {k = c.spacing-n.result} (omega (arith, c.spacing-n.ensures))).0 c.group_of-left.ensures.2 in
-    omega (arith, inside)
+group_place-requires c = has_count (goal.at.group_place-requires c).Else-total-eq0
 
 pub returns : goal.returns
 unfolding group_in
@@ -68,4 +53,4 @@ returns c =
       s ∙ rw (m, total, g) refl,
       c.group_of-left.ensures.1 ∙ ap (λ (i : ℕ). halvings above i 0 i) q,
     ) in
-    let k = chosen in (k.0, c.smaller.ensures ∙ k.1, k.2)
+    let k = chosen in (k.0, c.min.ensures ∙ k.1, k.2)

@@ -1,5 +1,5 @@
-use Rattle.fields.proofs.Base.{◌≡◌, refl, sym, ap, ◌∙◌, Bool, true, false, ℕ, ◌+◌, ◌-◌, ◌<◌, arith}
-use Rattle.names.specs.Order.{is_less}
+use Rattle.fields.proofs.Base.{◌≡◌, sym, ap, ◌∙◌, Bool, true, false, ℕ, ◌+◌, ◌-◌, ◌<◌, arith}
+use Rattle.std.specs.Ordering.{is_lt}
 use Rattle.names.specs.Names.{compared}
 use Rattle.halving.specs.Halving.{group_above, middle}
 use Rattle.halving.proofs.Halving.{halved_one, halved_lower, halved_upper, halvings_one, halvings_lower, halvings_upper, halvings_fuel}
@@ -17,53 +17,29 @@ module _ (above : ℕ → Bool) (last lo hi turns : ℕ) (h : lo < hi) (l : Left
       let q = halvings_upper above l.0 lo hi h l.1 m in
       (l.0 - 1, omega arith, omega arith, omega arith, sym (halved_upper above l.0 lo hi h l.1 m) ∙ l.4, omega (arith, q))
 
-pub loop-lo-init : goal.loop-lo-init
-loop-lo-init c = (c.args.last, omega arith, omega arith, omega arith, refl, omega arith)
-
-pub overflow_sub-middle : goal.overflow_sub-middle
-overflow_sub-middle c = omega arith
-
-pub overflow_add-middle : goal.overflow_add-middle
-overflow_add-middle c = omega arith
-
-pub overflow_add-middle-in-loop-lo : goal.overflow_add-middle-in-loop-lo
-overflow_add-middle-in-loop-lo c = omega arith
-
 pub overflow_add-turns : goal.overflow_add-turns
 overflow_add-turns c = let l = c.loop-lo in
     let a = c.args in
     let f = halvings_fuel (group_above a.kind a.c.now (compared a.name.now)) a.last 0 a.last in
     omega (arith, f)
 
-pub overflow_sub-hi : goal.overflow_sub-hi
-overflow_sub-hi c = omega arith
-
-pub loop-lo-smaller-in-Less : goal.loop-lo-smaller-in-Less
-loop-lo-smaller-in-Less c = omega arith
-
 pub loop-lo-preserved-in-Less : goal.loop-lo-preserved-in-Less
 loop-lo-preserved-in-Less c = let l = c.loop-lo in
     let a = c.args in
     left_lower (group_above a.kind a.c.now (compared a.name.now)) a.last l.lo l.hi l.turns c.loop-lo-test.true l.invariant
-    (sym c.stands_to.ensures ∙ ap is_less c.in-Less.is)
-
-pub loop-lo-smaller-in-Equal : goal.loop-lo-smaller-in-Equal
-loop-lo-smaller-in-Equal c = omega arith
+    (sym c.stands_to.ensures ∙ ap is_lt c.in-Less.is)
 
 pub loop-lo-preserved-in-Equal : goal.loop-lo-preserved-in-Equal
 loop-lo-preserved-in-Equal c = let l = c.loop-lo in
     let a = c.args in
     left_upper (group_above a.kind a.c.now (compared a.name.now)) a.last l.lo l.hi l.turns c.loop-lo-test.true l.invariant
-    (sym c.stands_to.ensures ∙ ap is_less c.in-Equal.is)
-
-pub loop-lo-smaller : goal.loop-lo-smaller
-loop-lo-smaller c = omega arith
+    (sym c.stands_to.ensures ∙ ap is_lt c.in-Equal.is)
 
 pub loop-lo-preserved : goal.loop-lo-preserved
 loop-lo-preserved c = let l = c.loop-lo in
     let a = c.args in
     left_upper (group_above a.kind a.c.now (compared a.name.now)) a.last l.lo l.hi l.turns c.loop-lo-test.true l.invariant
-    (sym c.stands_to.ensures ∙ ap is_less c.in-Greater.is)
+    (sym c.stands_to.ensures ∙ ap is_lt c.in-Greater.is)
 
 pub returns : goal.returns
 returns c = let l = c.loop-lo in

@@ -1,48 +1,35 @@
-use Rattle.fields.proofs.Base.{◌≡◌, sym, ap, ◌∙◌, ◌+◌, arith}
-use Rattle.search.specs.Search.{cost_at}
-use Rattle.search.specs.declared.Search.{Search}
-use Rattle.lookup.specs.Lookup.{answer_of}
-use Rattle.lookup.specs.Step.{outcome_at}
-use Rattle.lookup.specs.declared.Answer.TheVariants.{Refused}
-use Rattle.lookup.proofs.Steps.{after_search, listing_answer, found_few, next_few}
+use Rattle.fields.proofs.Base.{◌≡◌, sym, ap, ◌∙◌, arith, Some, None, Err}
+use Rattle.search.specs.Search.{search_in}
+use Rattle.search.specs.declared.Search.TheVariants.{Found, Next}
+use Rattle.lookup.proofs.Steps.{listing_answer, found_few, next_few}
+use Rattle.lookup.proofs.ask_listing.Goals.{In-Some-Found, In-Some-Next}
 use Rattle.lookup.proofs.ask_listing.Goals as goal
+
+-- what the search comes to
+found_is : (c : In-Some-Found) → let a = c.args in search_in a.file.now a.book a.name.now a.c ≡ Some (Found c.in-Some-Found.count c.in-Some-Found.x)
+found_is c = sym c.search_in.ensures ∙ (c.in-Some-Found.is ∙ ap Some c.in-Some-Found.field-0-is)
+
+next_is : (c : In-Some-Next) → let a = c.args in search_in a.file.now a.book a.name.now a.c ≡ Some (Next c.in-Some-Next.missed c.in-Some-Next.field-0-1)
+next_is c = sym c.search_in.ensures ∙ (c.in-Some-Next.is ∙ ap Some c.in-Some-Next.field-0-is)
 
 pub overflow_add-sum : goal.overflow_add-sum
 overflow_add-sum c = let a = c.args in
-    let few = found_few a.file.now a.book a.name.now a.c _ _ (sym c.search_in.ensures ∙ c.in-Found.is) (λ j. (c.type_inv.file j).fits) in
+    let few = found_few a.file.now a.book a.name.now a.c _ _ (found_is (goal.at.overflow_add-sum c).In-Some-Found) (λ j. (c.type_inv.file j).fits) in
     omega (arith, few)
 
 pub overflow_add-total : goal.overflow_add-total
 overflow_add-total c = let a = c.args in
-    let few = next_few a.file.now a.book a.name.now a.c _ _ (sym c.search_in.ensures ∙ c.in-Next.is) (λ j. (c.type_inv.file j).fits) in
+    let few = next_few a.file.now a.book a.name.now a.c _ _ (next_is (goal.at.overflow_add-total c).In-Some-Next) (λ j. (c.type_inv.file j).fits) in
     omega (arith, few)
 
-pub returns-in-Found : goal.returns-in-Found
-returns-in-Found c =
-    let answers : (x : Search) → c.search_in.result ≡ x
-    → let a = c.args in
-    after_search a.n a.spent x
-    ≡ answer_of a.book (record { chunks = a.n; comparisons = a.spent + cost_at a.file.now a.book a.name.now a.c }) (outcome_at a.file.now a.book a.name.now 1 a.c) =
-    λ x q. let a = c.args in
-    listing_answer a.file.now a.book a.name.now a.c a.n a.spent x (sym c.search_in.ensures ∙ q) in
-    answers _ c.in-Found.is
+pub returns-in-Some-Found : goal.returns-in-Some-Found
+returns-in-Some-Found c = let a = c.args in
+    listing_answer a.file.now a.book a.name.now a.c a.n a.spent _ (found_is (goal.at.returns-in-Some-Found c).In-Some-Found)
 
-pub returns-in-Next : goal.returns-in-Next
-returns-in-Next c =
-    let answers : (x : Search) → c.search_in.result ≡ x
-    → let a = c.args in
-    after_search a.n a.spent x
-    ≡ answer_of a.book (record { chunks = a.n; comparisons = a.spent + cost_at a.file.now a.book a.name.now a.c }) (outcome_at a.file.now a.book a.name.now 1 a.c) =
-    λ x q. let a = c.args in
-    listing_answer a.file.now a.book a.name.now a.c a.n a.spent x (sym c.search_in.ensures ∙ q) in
-    answers _ c.in-Next.is
+pub returns-in-Some-Next : goal.returns-in-Some-Next
+returns-in-Some-Next c = let a = c.args in
+    listing_answer a.file.now a.book a.name.now a.c a.n a.spent _ (next_is (goal.at.returns-in-Some-Next c).In-Some-Next)
 
-pub returns-in-Barred : goal.returns-in-Barred
-returns-in-Barred c =
-    let answers : (x : Search) → c.search_in.result ≡ x
-    → let a = c.args in
-    after_search a.n a.spent x
-    ≡ answer_of a.book (record { chunks = a.n; comparisons = a.spent + cost_at a.file.now a.book a.name.now a.c }) (outcome_at a.file.now a.book a.name.now 1 a.c) =
-    λ x q. let a = c.args in
-    listing_answer a.file.now a.book a.name.now a.c a.n a.spent x (sym c.search_in.ensures ∙ q) in
-    ap Refused c.refuse.ensures ∙ answers _ c.in-Barred.is
+pub returns-in-None : goal.returns-in-None
+returns-in-None c = let a = c.args in
+    ap Err c.refuse.ensures ∙ listing_answer a.file.now a.book a.name.now a.c a.n a.spent None (sym c.search_in.ensures ∙ c.in-None.is)

@@ -1,6 +1,6 @@
-use Rattle.fields.proofs.Base.{◌≡◌, refl, sym, ◌∙◌, ◌+◌, ◌-◌, arith, drop}
+use Rattle.fields.proofs.Base.{◌≡◌, sym, ◌∙◌, ◌+◌, ◌-◌, arith, drop}
 use Rattle.names.specs.Names.{compared}
-use Rattle.names.specs.declared.Order.TheVariants.{Less, Equal, Greater}
+use Rattle.std.specs.declared.cmp.Ordering.TheVariants.{Less, Equal, Greater}
 use Rattle.names.proofs.Alikes.{alike_compares}
 use Rattle.names.proofs.Steps.{first_ends, second_ends, both_end, turn}
 use Rattle.names.proofs.compare.Goals.{After-same_up_to-i}
@@ -15,15 +15,6 @@ passed c =
     let e : l.i + (c.same_up_to-i.result - l.i) ≡ c.same_up_to-i.result = omega (arith, r.0) in
     l.invariant.1 ∙ rw e at (alike_compares _ _ l.i l.i (c.same_up_to-i.result - l.i) r.2)
 
-pub shorter-end-requires : goal.shorter-end-requires
-shorter-end-requires c = tt
-
-pub loop-i-init : goal.loop-i-init
-loop-i-init c = (omega arith, refl)
-
-pub same_up_to-i-requires : goal.same_up_to-i-requires
-same_up_to-i-requires c = (omega arith, omega arith, omega arith)
-
 pub returns-then-i-a : goal.returns-then-i-a
 returns-then-i-a c =
     sym (passed (goal.at.returns-then-i-a c).After-same_up_to-i ∙ second_ends _ _ c.same_up_to-i.result (omega arith) (omega (arith, c.shorter-end.ensures.2 (omega arith))))
@@ -36,18 +27,6 @@ pub returns-then-end-i : goal.returns-then-end-i
 returns-then-end-i c =
     sym (passed (goal.at.returns-then-end-i c).After-same_up_to-i ∙ both_end _ _ c.same_up_to-i.result (omega arith) (omega arith))
 
-pub bounds-a-i : goal.bounds-a-i
-bounds-a-i c = omega arith
-
-pub fold-x-requires : goal.fold-x-requires
-fold-x-requires c = tt
-
-pub bounds-b-i : goal.bounds-b-i
-bounds-b-i c = omega arith
-
-pub fold-y-requires : goal.fold-y-requires
-fold-y-requires c = tt
-
 pub returns-then-x-y : goal.returns-then-x-y
 returns-then-x-y c =
     sym (passed (goal.at.returns-then-x-y c).After-same_up_to-i ∙ turn _ _ c.same_up_to-i.result Less (omega arith) (omega arith) (omega arith))
@@ -55,12 +34,6 @@ returns-then-x-y c =
 pub returns-then-y-x : goal.returns-then-y-x
 returns-then-y-x c =
     sym (passed (goal.at.returns-then-y-x c).After-same_up_to-i ∙ turn _ _ c.same_up_to-i.result Greater (omega arith) (omega arith) (omega arith))
-
-pub overflow_add-i : goal.overflow_add-i
-overflow_add-i c = omega arith
-
-pub loop-i-smaller : goal.loop-i-smaller
-loop-i-smaller c = omega arith
 
 pub loop-i-preserved : goal.loop-i-preserved
 loop-i-preserved c =

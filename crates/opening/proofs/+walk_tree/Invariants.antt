@@ -8,10 +8,7 @@ use Rattle.opening.proofs.+walk_tree.Given as goal
 abbrev pub decreases-walk_tree : goal.decreases-walk_tree
 decreases-walk_tree l = l.level
 
-abbrev pub invariant-loop-rest : goal.invariant-loop-rest
-invariant-loop-rest l =
-    (xs : List Entry) × Left l.file l.book l.c l.rest l.at xs
+abbrev pub invariant-loop : goal.invariant-loop
+invariant-loop l =
+    (xs : List Entry) × Left l.file l.book l.c (l.entries - l.counter) l.at xs
     × (visit (into_child (directory_of l.file l.book) (walk_tree (directory_of l.file l.book) (shape_of l.book) (l.level - 1))) xs l.next l.k ≡ walk_tree (directory_of l.file l.book) (shape_of l.book) l.level l.c l.expected l.left)
-
-abbrev pub decreases-loop-rest : goal.decreases-loop-rest
-decreases-loop-rest l = l.rest

@@ -1,11 +1,10 @@
-use Rattle.fields.proofs.Base.{◌≡◌, Bool, List, ℕ, ◌-◌, ap, arith, sym, ◌∙◌}
+use Rattle.fields.proofs.Base.{◌≡◌, Bool, List, ℕ, ◌-◌, ap, arith, sym, ◌∙◌, Err}
 use Rattle.refusals.specs.Refusals.{no_chunk}
 use Rattle.header.specs.declared.Record.{Record}
 use Rattle.tree.specs.Tree.{top}
 use Rattle.tree.specs.Walk.{listings, chain_run, walk_tree, arrived, chain_run_ok, tree_walk_ok}
 use Rattle.book.specs.Book.{directory_of, shape_of}
 use Rattle.opening.specs.Passes.{GoodBook}
-use Rattle.opening.specs.declared.Opened.TheVariants.{Refused}
 use Rattle.opening.proofs.Links.{index_count, listing_count, linked_run}
 use Rattle.opening.proofs.open_links.Goals as goal
 
@@ -25,7 +24,7 @@ returns-then-not-chain_linked c =
     rw (
       linked_run a.file.now a.book c.requires.0,
       sym (chain_is a.file.now a.book a.listings _ c.requires.1 c.chain_linked.ensures) ∙ c.if-not-chain_linked.true,
-    ) (ap Refused c.refuse.ensures)
+    ) (ap Err c.refuse.ensures)
 
 pub overflow_sub-book : goal.overflow_sub-book
 overflow_sub-book c = omega (arith, c.requires.1, listing_count c.args.file.now c.args.book c.requires.0)
@@ -37,7 +36,7 @@ returns-then-not-tree_right c =
       linked_run a.file.now a.book c.requires.0,
       sym (chain_is a.file.now a.book a.listings _ c.requires.1 c.chain_linked.ensures) ∙ c.if-not-chain_linked.false,
       sym (tree_is a.file.now a.book a.listings _ c.requires.1 c.requires.0 c.tree_right.ensures) ∙ c.if-not-tree_right.true,
-    ) (ap Refused c.refuse-then-not-tree_right.ensures)
+    ) (ap Err c.refuse-then-not-tree_right.ensures)
 
 pub returns : goal.returns
 returns c =

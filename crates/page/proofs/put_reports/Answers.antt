@@ -1,6 +1,5 @@
-use Rattle.fields.proofs.Base.{◌≡◌, sym, ap, ◌∙◌, ◌*◌, arith, sets}
+use Rattle.fields.proofs.Base.{◌≡◌, sym, ap, ◌∙◌, ◌*◌, arith, sets, Some}
 use Rattle.entries.specs.Entry.{item_at}
-use Rattle.entries.specs.declared.Item.TheVariants.{Good}
 use Rattle.entries.specs.declared.Kind.TheVariants.{Listing}
 use Rattle.chunk_fields.specs.ChunkFields.{entry_count}
 use Rattle.book.specs.Book.{limits_of, chunk_bytes}
@@ -44,8 +43,8 @@ loop-i-preserved c =
     c.listing_at.result ≡ item_at (limits_of a.file.now a.book) Listing (chunk_bytes a.file.now a.book a.chunk) c.loop-i.at =
     rw (← c.limits-limits.ensures, ← c.chunk_bytes-c.ensures) c.listing_at.ensures in
     let good_is : let a = c.args in
-    item_at (limits_of a.file.now a.book) Listing (chunk_bytes a.file.now a.book a.chunk) c.loop-i.at ≡ Good c.in-Good.e =
-    sym read_is ∙ c.in-Good.is in
+    item_at (limits_of a.file.now a.book) Listing (chunk_bytes a.file.now a.book a.chunk) c.loop-i.at ≡ Some c.in-Some.e =
+    sym read_is ∙ c.in-Some.is in
     let n = count_is in
     left_turn c.args.file.now c.args.book c.args.chunk c.requires.chunk_value _ _ _ _ _ _ c.loop-i.invariant (omega arith) good_is
     (c.put_report.ensures ∙ ap (λ r. sets c.loop-i.out (5 * c.loop-i.i) (five_of r)) c.report_of.ensures)

@@ -1,11 +1,7 @@
-use Rattle.fields.proofs.Base.{refl, add-zero, length-set, rules}
-use native.Mathlib.Nat.{sub-zero}
+use Rattle.fields.proofs.Base.{length-set, rules}
 use Rattle.fields.proofs.Le.{bytes_more, bytes_none}
 use Rattle.put.proofs.Put.{sets_turn, sets_end}
 use Rattle.put.proofs.write_number.Goals as goal
-
-pub loop-i-init : goal.loop-i-init
-loop-i-init c = (search rules, refl, rw (add-zero, sub-zero))
 
 pub loop-i-preserved : goal.loop-i-preserved
 loop-i-preserved c = let l = c.loop-i in

@@ -5,6 +5,3 @@ use Rattle.put.proofs.write_number.Given as goal
 
 abbrev pub invariant-loop-i : goal.invariant-loop-i
 invariant-loop-i l = (l.i ≤ l.k) × (length l.out ≡ length l.initial.out) × (sets l.out (l.at + l.i) (bytes (l.k - l.i) l.x) ≡ sets l.initial.out l.at (bytes l.k l.v))
-
-abbrev pub decreases-loop-i : goal.decreases-loop-i
-decreases-loop-i l = l.k - l.i

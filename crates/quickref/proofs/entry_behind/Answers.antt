@@ -1,28 +1,19 @@
-use Rattle.fields.proofs.Base.{refl, sym, ◌∙◌, arith}
+use Rattle.fields.proofs.Base.{◌≡◌, sym, ap, ◌∙◌, ℕ, ◌+◌, ◌-◌, arith}
+use Rattle.quickref.specs.Quickref.{after_at}
 use Rattle.quickref.proofs.Steps.{after_bad, after_on, after_here}
 use Rattle.quickref.proofs.entry_behind.Goals as goal
 
-pub loop-left-init : goal.loop-left-init
-loop-left-init c = refl
+pub returns-in_err-at : goal.returns-in_err-at
+returns-in_err-at c = let a = c.args in
+    c.from_residual.ensures ∙ sym (after_bad a.limits a.kind a.c.now (a.past - c.loop.counter) c.loop.at (sym c.in_err-at.ensures)) ∙ c.loop.invariant
 
-pub returns-in_default : goal.returns-in_default
-returns-in_default c = let a = c.args in
-    sym (after_bad a.limits a.kind a.c.now c.loop-left.left c.loop-left.at (sym c.item_at.ensures ∙ c.in_default.is)) ∙ c.loop-left.invariant
+pub loop-preserved : goal.loop-preserved
+loop-preserved c = let a = c.args in
+    let e = c.in_ok-at.field-0 in
+    let one_less : a.past - (c.loop.counter + 1) ≡ a.past - c.loop.counter - 1 = omega arith in
+    ap (λ (n : ℕ). after_at a.limits a.kind a.c.now n e.next) one_less
+    ∙ sym (after_on a.limits a.kind a.c.now (a.past - c.loop.counter) c.loop.at e (omega arith) (sym c.in_ok-at.ensures)) ∙ c.loop.invariant
 
-pub overflow_sub-left : goal.overflow_sub-left
-overflow_sub-left c = omega arith
-
-pub loop-left-smaller : goal.loop-left-smaller
-loop-left-smaller c = omega arith
-
-pub loop-left-preserved : goal.loop-left-preserved
-loop-left-preserved c = let a = c.args in
-    sym (after_on a.limits a.kind a.c.now c.loop-left.left c.loop-left.at c.in-Good.e c.loop-left-test.true (sym c.item_at.ensures ∙ c.in-Good.is)) ∙ c.loop-left.invariant
-
-pub returns-in-Good-item_at : goal.returns-in-Good-item_at
-returns-in-Good-item_at c = let a = c.args in
-    sym (after_here a.limits a.kind a.c.now c.loop-left.left c.loop-left.at c.in-Good-item_at.e c.loop-left-test.false (sym c.item_at-2.ensures ∙ c.in-Good-item_at.is)) ∙ c.loop-left.invariant
-
-pub returns-in-Bad : goal.returns-in-Bad
-returns-in-Bad c = let a = c.args in
-    sym (after_bad a.limits a.kind a.c.now c.loop-left.left c.loop-left.at (sym c.item_at-2.ensures ∙ c.in-Bad.is)) ∙ c.loop-left.invariant
+pub returns : goal.returns
+returns c = let a = c.args in
+    c.item_at-2.ensures ∙ sym (after_here a.limits a.kind a.c.now (a.past - c.loop.counter) c.loop.at (omega arith)) ∙ c.loop.invariant

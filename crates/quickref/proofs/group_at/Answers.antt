@@ -1,14 +1,10 @@
-use Rattle.fields.proofs.Base.{eq-eqb, ne_eqb, arith}
-use Rattle.chunk.proofs.Frame.{head_small}
+use Rattle.fields.proofs.Base.{eq-eqb, ne_eqb}
 use Rattle.quickref.specs.Quickref.{group_at}
 use Rattle.quickref.proofs.group_at.Goals as goal
 
 pub returns-then-g-eq0 : goal.returns-then-g-eq0
 unfolding group_at
 returns-then-g-eq0 c = rw (eq-eqb _ _ c.if-g-eq0.true) c.first_place-first.ensures
-
-pub overflow_add-result : goal.overflow_add-result
-overflow_add-result c = omega (arith, c.first_place-first.ensures, head_small c.args.kind)
 
 pub returns : goal.returns
 unfolding group_at

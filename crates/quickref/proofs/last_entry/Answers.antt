@@ -6,6 +6,3 @@ pub returns-then-total-lt1 : goal.returns-then-total-lt1
 unfolding nth_in
 returns-then-total-lt1 c = let r = c.entry_count-total.result in
     rw (← c.entry_count-total.ensures, le-ltb (r - 1) r (omega arith))
-
-pub returns : goal.returns
-returns c = rw (← c.entry_count-total.ensures) c.nth_entry.ensures

@@ -12,7 +12,7 @@ use Rattle.seek.proofs.find.Given as goal
 abbrev pub invariant-loop-left : goal.invariant-loop-left
 invariant-loop-left l = (l.left ≤ size_in l.limits l.c (group_in l.limits Listing l.c (compared l.name)))
     × (find_from l.limits l.c (compared l.name) (spent_in l.limits Listing l.c (compared l.name) l.left) l.left l.at
-    ≡ record { hit = find_in l.limits l.c (compared l.name); count = cost_in l.limits Listing l.c (compared l.name) })
+    ≡ record { answer = find_in l.limits l.c (compared l.name); count = cost_in l.limits Listing l.c (compared l.name) })
 
 abbrev pub decreases-loop-left : goal.decreases-loop-left
 decreases-loop-left l = l.left

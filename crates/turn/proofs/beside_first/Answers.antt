@@ -3,14 +3,14 @@ use Rattle.turn.specs.Turn.{beside_first}
 use Rattle.turn.specs.declared.Turn.TheVariants.{Tell}
 use Rattle.turn.proofs.beside_first.Goals as goal
 
-pub returns-in-Refused : goal.returns-in-Refused
+pub returns-in-Err : goal.returns-in-Err
 unfolding beside_first
-returns-in-Refused c = rw (← c.peek.ensures, c.in-Refused.is) (ap Tell c.refused_by.ensures)
+returns-in-Err c = rw (← c.peek.ensures, c.in-Err.is) (ap Tell c.refused_by.ensures)
 
-pub returns-in-End : goal.returns-in-End
+pub returns-in-Ok-None : goal.returns-in-Ok-None
 unfolding beside_first
-returns-in-End c = rw (← c.peek.ensures, c.in-End.is) c.only_first.ensures
+returns-in-Ok-None c = rw (← c.peek.ensures, c.in-Ok-None.is, c.in-Ok-None.field-0-is) c.only_first.ensures
 
-pub returns-in-Entry : goal.returns-in-Entry
+pub returns-in-Ok-Some : goal.returns-in-Ok-Some
 unfolding beside_first
-returns-in-Entry c = rw (← c.peek.ensures, c.in-Entry.is) c.paired.ensures
+returns-in-Ok-Some c = rw (← c.peek.ensures, c.in-Ok-Some.is, c.in-Ok-Some.field-0-is) c.paired.ensures

@@ -1,13 +1,14 @@
-use Rattle.fields.proofs.Base.{◌≡◌, sym, ap, ap₂, ◌∙◌, false, ℕ, ◌-◌, arith}
+use Rattle.fields.proofs.Base.{◌≡◌, sym, ap, ap₂, ◌∙◌, false, ℕ, ◌-◌, arith, Some, Ok, Err}
 use Rattle.entries.specs.declared.Kind.{Kind}
 use Rattle.chunk_fields.specs.ChunkFields.{first_place, entry_count}
-use Rattle.chunk.specs.declared.Chunk.TheVariants.{Listing}
-use Rattle.book.specs.Book.{chunk_bytes, checked_chunk}
+use Rattle.chunk.specs.declared.Chunk.TheVariants.{Listing, Index}
+use Rattle.tree.specs.Shape.{listing_chunk}
+use Rattle.book.specs.Book.{chunk_bytes, checked_chunk, directory_of, shape_of}
 use Rattle.book.proofs.Checked.{checked_listing, checked_index, checked_refused}
 use Rattle.book.proofs.Read.{entries_length}
 use Rattle.walk.specs.Walk.{is_over}
-use Rattle.walk.specs.declared.Entered.TheVariants.{Inside}
 use Rattle.walk.proofs.Entering.{enter_inside, enter_over, enter_none, enter_barred, enter_chunk}
+use Rattle.walk.proofs.enter.Goals.{in_default-via-in-Ok+in_default, in_default-via-in_default}
 use Rattle.walk.proofs.enter.Goals as goal
 
 pub returns-then-w-gt0 : goal.returns-then-w-gt0
@@ -22,37 +23,32 @@ returns-then-w-lt1 c =
     let on : let a = c.args in is_over a.book a.w ≡ false =
     sym c.is_over.ensures ∙ c.if-is_over.false in
     let a = c.args in
-    sym (enter_none a.file.now a.book a.w c.if-w-gt0.false on (omega arith))
+    ap Err c.no_reading.ensures ∙ sym (enter_none a.file.now a.book a.w c.if-w-gt0.false on (omega arith))
 
-pub returns-in-Index : goal.returns-in-Index
-returns-in-Index c =
-    let on : let a = c.args in is_over a.book a.w ≡ false =
-    sym c.is_over.ensures ∙ c.if-is_over.false in
+pub returns-in_default : goal.returns-in_default
+returns-in_default c =
     let a = c.args in
-    sym (enter_barred a.file.now a.book a.w c.if-w-gt0.false on
-    (checked_index a.file.now a.book a.w.next (sym c.checked_chunk.ensures ∙ c.in-Index.is)).1)
-
-pub returns-in-Refused : goal.returns-in-Refused
-returns-in-Refused c =
-    let on : let a = c.args in is_over a.book a.w ≡ false =
-    sym c.is_over.ensures ∙ c.if-is_over.false in
-    let a = c.args in
-    sym (enter_barred a.file.now a.book a.w c.if-w-gt0.false on
-    (checked_refused a.file.now a.book a.w.next _ (sym c.checked_chunk.ensures ∙ c.in-Refused.is)).1)
+    let barred : listing_chunk (directory_of a.file.now a.book) (shape_of a.book) a.w.next ≡ false =
+    elim c.in_default.branch [
+      | in_default-via-in-Ok+in_default w ↦ (let h : w.in_default.field-0 ≡ Index = cc in (checked_index a.file.now a.book a.w.next (sym c.checked_chunk.ensures ∙ w.in_default.is ∙ ap Ok h)).1)
+      | in_default-via-in_default w ↦ (checked_refused a.file.now a.book a.w.next _ (sym c.checked_chunk.ensures ∙ w.in_default.is)).1
+    ] in
+    ap Err c.no_reading-in_default.ensures ∙ sym (enter_barred a.file.now a.book a.w c.if-w-gt0.false (sym c.is_over.ensures ∙ c.if-is_over.false) barred)
 
 pub returns : goal.returns
 returns c =
     let on : let a = c.args in is_over a.book a.w ≡ false =
     sym c.is_over.ensures ∙ c.if-is_over.false in
+    let listed : c.in-Ok-Listing.field-0 ≡ Listing c.in-Ok-Listing.field-0-0 c.in-Ok-Listing.next = cc in
     let met_is : let a = c.args in
-    checked_chunk a.file.now a.book a.w.next ≡ Listing c.in-Listing.field-0 c.in-Listing.next =
-    sym c.checked_chunk.ensures ∙ c.in-Listing.is in
+    checked_chunk a.file.now a.book a.w.next ≡ Ok (Listing c.in-Ok-Listing.field-0-0 c.in-Ok-Listing.next) =
+    sym c.checked_chunk.ensures ∙ c.in-Ok-Listing.is ∙ ap Ok listed in
     let count_is : let a = c.args in
     c.entry_count-left.result ≡ entry_count (chunk_bytes a.file.now a.book a.w.next) =
     rw (← c.chunk_bytes.ensures) c.entry_count-left.ensures in
     let a = c.args in
     let d = checked_listing a.file.now a.book a.w.next _ _ met_is in
-    ap (λ (i : ℕ). Inside (record { chunk = a.w.next; at = i; left = c.entry_count-left.result; next = c.in-Listing.next; more = a.w.more - 1 })) c.first_place-at.ensures
-    ∙ ap₂ (λ (n k : ℕ). Inside (record { chunk = a.w.next; at = first_place Kind.Listing; left = n; next = k; more = a.w.more - 1 }))
+    ap (λ (i : ℕ). Ok (Some (record { chunk = a.w.next; at = i; left = c.entry_count-left.result; next = c.in-Ok-Listing.next; more = a.w.more - 1 }))) c.first_place-at.ensures
+    ∙ ap₂ (λ (n k : ℕ). Ok (Some (record { chunk = a.w.next; at = first_place Kind.Listing; left = n; next = k; more = a.w.more - 1 })))
     (count_is ∙ sym (entries_length a.file.now a.book a.w.next d.kind)) (sym d.next_is)
     ∙ sym (enter_chunk a.file.now a.book a.w c.if-w-gt0.false on (omega arith) d.below)

@@ -1,27 +1,27 @@
-use Rattle.fields.proofs.Base.{arith}
+use Rattle.fields.proofs.Base.{arith, refl, inl, inr}
 use Rattle.pack.proofs.Levels.{chunks_given}
 use Rattle.writer.specs.Plan.{ListingLevel}
 use Rattle.writer.proofs.Shaping.{first_over, shaping_start, shaping_end, shaping_deep, shaping_over, shaping_turn}
-use Rattle.writer.proofs.plan.Goals.{In-Count}
+use Rattle.writer.proofs.plan.Goals.{In-Some}
 use Rattle.writer.proofs.plan.Goals as goal
 
 -- the listing level
-listed : (c : In-Count) → ListingLevel c.args.content c.args.input.now c.args.n c.args.starts.now c.plan_listing.new.starts c.in-Count.m
-listed c = rw c.in-Count.is at c.plan_listing.ensures
+listed : (c : In-Some) → ListingLevel c.args.content c.args.input.now c.args.n c.args.starts.now c.plan_listing.new.starts c.in-Some.m
+listed c = rw c.in-Some.is at c.plan_listing.ensures
 
 pub returns-in_default : goal.returns-in_default
-returns-in_default c = rw c.in_default.is at c.plan_listing.ensures
+returns-in_default c = inr (refl, rw c.in_default.is at c.plan_listing.ensures)
 
 pub returns-then-starts-m : goal.returns-then-starts-m
 returns-then-starts-m c =
-    let l = listed (goal.at.returns-then-starts-m c).In-Count in
+    let l = listed (goal.at.returns-then-starts-m c).In-Some in
     let k = c.plan_listing.auto.starts in
     let s = c.requires in
-    (l.right, first_over _ _ _ _ _ _ _ s k l (chunks_given _ _ _ _) (omega (arith, k, s, c.if-starts-m.true)))
+    inl (refl, l.right, first_over _ _ _ _ _ _ _ s k l (chunks_given _ _ _ _) (omega (arith, k, s, c.if-starts-m.true)))
 
 pub loop-end-init : goal.loop-end-init
 loop-end-init c =
-    let l = listed (goal.at.loop-end-init c).In-Count in
+    let l = listed (goal.at.loop-end-init c).In-Some in
     let k = c.plan_listing.auto.starts in
     let s = c.requires in
     (l.right, shaping_start _ _ _ _ _ _ _ s k l (chunks_given _ _ _ _) (omega (arith, k, s, c.if-starts-m.false)))
@@ -30,7 +30,7 @@ pub overflow_sub-end : goal.overflow_sub-end
 overflow_sub-end c = omega (arith, c.loop-end.invariant.1.size)
 
 pub returns-then-depth-eq5 : goal.returns-then-depth-eq5
-returns-then-depth-eq5 c = let i = c.loop-end.invariant in (i.0, shaping_deep _ _ _ _ _ _ _ _ _ i.1 c.loop-end-test.true c.if-depth-eq5.true)
+returns-then-depth-eq5 c = let i = c.loop-end.invariant in inl (refl, i.0, shaping_deep _ _ _ _ _ _ _ _ _ i.1 c.loop-end-test.true c.if-depth-eq5.true)
 
 pub plan_level-next-requires : goal.plan_level-next-requires
 plan_level-next-requires c = let i = c.loop-end.invariant.1 in (omega (arith, i.size), i.inside, omega (arith, i.kept))
@@ -38,7 +38,7 @@ plan_level-next-requires c = let i = c.loop-end.invariant.1 in (omega (arith, i.
 pub returns-then-starts-next : goal.returns-then-starts-next
 returns-then-starts-next c = let i = c.loop-end.invariant in
     let k = c.plan_level-next.auto.starts in
-    (i.0, shaping_over _ _ _ _ _ _ _ _ _ i.1 c.loop-end-test.true _ _ k c.plan_level-next.ensures (omega (arith, k, c.if-starts-next.true)))
+    inl (refl, i.0, shaping_over _ _ _ _ _ _ _ _ _ i.1 c.loop-end-test.true _ _ k c.plan_level-next.ensures (omega (arith, k, c.if-starts-next.true)))
 
 pub overflow_add-depth : goal.overflow_add-depth
 overflow_add-depth c = omega (arith, c.loop-end.invariant.1.high)

@@ -4,7 +4,7 @@ use Rattle.source.proofs.Rows.{Stepped, taken_entry, run_end}
 use Rattle.pack.specs.Fill.{extent_from}
 use Rattle.pack.proofs.Levels.{chunks_more}
 use Rattle.writer.proofs.Leveled.{leveled_start, leveled_end, leveled_room, leveled_turn}
-use Rattle.writer.proofs.put_level.Goals.{In-Good, In_default, After-put_chunk-f}
+use Rattle.writer.proofs.put_level.Goals.{In-Some, In_default, After-put_chunk-f}
 use Rattle.writer.proofs.put_level.Goals as goal
 
 -- no chunk is left
@@ -12,10 +12,10 @@ end_is : (c : In_default) → rows_from c.args.content c.args.input.now (take c.
 end_is c = run_end _ _ _ (sym (rw c.loop-out.invariant.0 at c.step.ensures) ∙ c.in_default.is)
 
 -- the entry that is read, the room for its chunk, and what that takes
-read_is : (c : In-Good) → Stepped c.loop-out.c.left (item_from c.args.content c.args.input.now (take c.args.end c.args.starts.now) c.args.from.kind c.loop-out.c.at) c.in-Good.field-0
-read_is c = taken_entry _ _ _ (sym (rw c.loop-out.invariant.0 at c.step.ensures) ∙ c.in-Good.is)
+read_is : (c : In-Some) → Stepped c.loop-out.c.left (item_from c.args.content c.args.input.now (take c.args.end c.args.starts.now) c.args.from.kind c.loop-out.c.at) c.in-Some.field-0
+read_is c = taken_entry _ _ _ (sym (rw c.loop-out.invariant.0 at c.step.ensures) ∙ c.in-Some.is)
 
-room_is : (c : In-Good) → (204 + 4096 * (c.loop-out.j + 1) ≤ length c.loop-out.out) × (c.loop-out.j < 4096)
+room_is : (c : In-Some) → (204 + 4096 * (c.loop-out.j + 1) ≤ length c.loop-out.out) × (c.loop-out.j < 4096)
 room_is c = let i = read_is c in leveled_room _ _ _ _ _ _ _ _ _ _ _ _ _ _ c.loop-out.invariant.1 _ i.some i.item c.requires
 
 takes_is : (c : After-put_chunk-f) → c.put_chunk-f.result ≡ extent_from c.args.from.kind c.args.n 0 0 c.loop-out.c.at c.loop-out.c.left (rows_from c.args.content c.args.input.now (take c.args.end c.args.starts.now) c.args.from.kind c.loop-out.c.left c.loop-out.c.at)
@@ -36,20 +36,20 @@ slice_bounds-put_chunk-end c = sym (length-take-le c.args.end c.args.starts.now 
 
 pub put_chunk-f-requires : goal.put_chunk-f-requires
 put_chunk-f-requires c =
-    room_is (goal.at.put_chunk-f-requires c).In-Good
+    room_is (goal.at.put_chunk-f-requires c).In-Some
 
 pub overflow_add-j : goal.overflow_add-j
 overflow_add-j c =
-    omega (arith, (room_is (goal.at.overflow_add-j c).In-Good).1)
+    omega (arith, (room_is (goal.at.overflow_add-j c).In-Some).1)
 
 pub loop-out-smaller : goal.loop-out-smaller
 loop-out-smaller c =
-    let i = read_is (goal.at.loop-out-smaller c).In-Good in
+    let i = read_is (goal.at.loop-out-smaller c).In-Some in
     (chunks_more _ _ _ _ _ _ _ _ _ i.some i.item (takes_is (goal.at.loop-out-smaller c).After-put_chunk-f)).less
 
 pub loop-out-preserved : goal.loop-out-preserved
 loop-out-preserved c =
     let l = c.loop-out in
-    let i = read_is (goal.at.loop-out-preserved c).In-Good in
+    let i = read_is (goal.at.loop-out-preserved c).In-Some in
     let w = c.put_chunk-f in
     (refl, leveled_turn _ _ _ _ _ _ _ _ _ _ _ _ _ _ l.invariant.1 _ i.some i.item _ _ (takes_is (goal.at.loop-out-preserved c).After-put_chunk-f) (rw l.invariant.0 at w.ensures.1) w.auto.out)

@@ -1,8 +1,0 @@
-use Rattle.fields.proofs.Base.{le-leb, lt-leb}
-use Rattle.directory_header.proofs.is_within.Goals as goal
-
-pub returns-then-x-low : goal.returns-then-x-low
-returns-then-x-low c = rw (lt-leb _ _ c.if-x-low.true)
-
-pub returns : goal.returns
-returns c = rw (le-leb _ _ c.if-x-low.false)
