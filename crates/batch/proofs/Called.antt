@@ -59,9 +59,6 @@ module _ (s : List ℕ) (book : Record) (names was : List ℕ) where
     pub in_short : length was / 32 < n → (Err (refusal_of BadBatch) ≡ batch_in names (length was)) × (was ≡ answers_by s book names was)
     in_short h = not_answered (short_not names (length was) n e h)
 
-    pub in_room : n ≤ length was / 32 → 32 * length (names_in names).list ≤ length was
-    in_room h = fits_room names (length was) n e h
-
     pub in_done : (is : List ℕ) → n ≤ length was / 32 → is ≡ sets was 0 (results_by s book (names_in names).list)
         → ((Ok tt) ≡ batch_in names (length was)) × (is ≡ answers_by s book names was)
     unfolding batch_in answers_by

@@ -1,5 +1,5 @@
 -- The answers as they are written: those of the names that are left make the whole.
-use Rattle.fields.proofs.Base.{◌≡◌, refl, sym, ap, ◌∙◌, List, [], ◌∷◌, ◌++◌, flat_map, append-nil, append_assoc, ℕ, ◌+◌, ◌-◌, ◌*◌, ◌≤◌, ◌<◌, arith, length, length-append, sets, length-sets, Option, Some, None, Result, Ok, Err}
+use Rattle.fields.proofs.Base.{◌≡◌, sym, ap, ◌∙◌, List, [], ◌∷◌, ◌++◌, flat_map, append-nil, append_assoc, ℕ, ◌+◌, ◌-◌, ◌*◌, ◌≤◌, ◌<◌, arith, length, length-append, sets, length-sets, Option, Some, None, Result, Ok, Err}
 use Rattle.fields.specs.Le.{bytes}
 use Rattle.fields.specs.Part.{part}
 use Rattle.put.specs.Put.{put}
@@ -73,9 +73,6 @@ pub record Left (s : List ℕ) (book : Record) (names out₀ out : List ℕ) (at
   pub whole : sets out to (results_by s book (names_from names most at).list) ≡ sets out₀ 0 (results_by s book (names_in names).list)
 
 module _ (s : List ℕ) (book : Record) (names out₀ : List ℕ) where
-  pub left_start : 32 * length (names_in names).list ≤ length out₀ → Left s book names out₀ out₀ 0 0
-  left_start h = record { most = length names; low = omega arith; enough = omega arith; size = refl; room = omega arith; whole = refl }
-
   module _ (out : List ℕ) (at to : ℕ) (l : Left s book names out₀ out at to) where
     pub left_end : length names ≤ at → out ≡ sets out₀ 0 (results_by s book (names_in names).list)
     unfolding flat_map

@@ -22,13 +22,11 @@ fn fetch_from(file: &[u8], book: Record, name: &[u8], level: u64, c: u64) -> Rep
     ensures { result ≡ reply_to book (fetch_at file.now book name.now level c) }
 {
     let mut at = c;
-    let mut left = level;
-    while 1 < left {
+    for _ in 1..level {
         let Some(below) = search::child_in(file, book, name, at).answer else {
             return Ok(None);
         };
         at = below;
-        left -= 1;
     }
     fetch_leaf(file, book, name, at)
 }

@@ -1,5 +1,5 @@
 -- A page as it is written: the numbers of the entries that are left make the whole.
-use Rattle.fields.proofs.Base.{◌≡◌, refl, sym, ap, ◌∙◌, true, List, [], ◌∷◌, ◌++◌, map, flat_map, ℕ, suc, ◌+◌, ◌-◌, ◌*◌, ◌≤◌, ◌<◌, arith, length, drop, set, drop_of_length-le, sets, length-sets, Some, None}
+use Rattle.fields.proofs.Base.{◌≡◌, refl, sym, ap, ◌∙◌, true, List, [], ◌++◌, map, flat_map, ℕ, ◌+◌, ◌-◌, ◌*◌, ◌≤◌, ◌<◌, arith, length, drop, drop_of_length-le, sets, length-sets, Some, None}
 use Rattle.put.proofs.Put.{sets_after}
 use Rattle.entries.specs.Entry.{item_at, Entry}
 use Rattle.entries.specs.declared.Place.{Place}
@@ -15,15 +15,6 @@ use Rattle.page.specs.Page.{five_of, numbers_of}
 use Rattle.listing.specs.Listing.{reports_in}
 use Rattle.book.proofs.Read.{left_more, entries_left, entries_length}
 use Rattle.report.proofs.Reported.{read_reported}
-
--- five stores one behind another
-pub five_stores : (t : List ℕ) (at a b c d e : ℕ) → set (set (set (set (set t at a) (at + 1) b) (at + 2) c) (at + 3) d) (at + 4) e ≡ sets t at (a ∷ b ∷ c ∷ d ∷ e ∷ [])
-five_stores t at a b c d e =
-    let p : at + 1 ≡ suc at = omega arith in
-    let q : at + 2 ≡ suc (suc at) = omega arith in
-    let r : at + 3 ≡ suc (suc (suc at)) = omega arith in
-    let u : at + 4 ≡ suc (suc (suc (suc at))) = omega arith in
-    rw (p, q, r, u)
 
 module _ (s : List ℕ) (book : Record) (c : ℕ) where
   abbrev es : List Entry

@@ -16,8 +16,7 @@ fn scan_chain(file: &[u8], book: Record, name: &[u8]) -> Reply
     ensures { result ≡ reply_to book (plain_in file.now book name.now) }
 {
     let mut c = book.first;
-    let mut left = book.count;
-    while 0 < left {
+    for _ in 0..book.count {
         match search::search_in(file, book, name, c) {
             Some(Search::Found(_, x)) => return Ok(Some(x)),
             Some(Search::Next(_, next)) => {
@@ -28,7 +27,6 @@ fn scan_chain(file: &[u8], book: Record, name: &[u8]) -> Reply
             }
             None => return Err(refusals::refuse(Rule::BadRecord)),
         }
-        left -= 1;
     }
     Err(refusals::refuse(Rule::BadRecord))
 }

@@ -19,7 +19,7 @@ use Rattle.layout.proofs.Cut.{Cut, takes_told}
 use Rattle.roundtrip.specs.RoundTrip.{new_book, RoundTrip}
 use Rattle.roundtrip.proofs.RoundTrips.{round_trip}
 use Rattle.writer.specs.Head.{written, output_for, RoundTripFor, ShortInput}
-use Rattle.writer.specs.Plan.{in_bounds, LevelsPlanned, LevelFits, IndexFits, index_of, headers_of, Ready}
+use Rattle.writer.specs.Plan.{in_bounds, LevelsPlanned, LevelFits, index_of, headers_of, Ready}
 use Rattle.layout.proofs.Sizes.{length_file, length_section, length_directory}
 use Rattle.fields.proofs.Lists.{flatten_append}
 use Rattle.writer.proofs.Lengths.{length_level}
@@ -53,18 +53,6 @@ module _ (content : ℕ) (s starts : List ℕ) (n : ℕ) (l : Layout) (m depth c
         known = omega arith;
         few = omega (arith, leaves_count, w.counted, w.listings, w.small);
         enough = omega (arith, leaves_count, w.counted, w.listings, r.enough);
-      }
-
-  pub ready_index : IndexFits s starts l m room
-  ready_index =
-      let w = r.made in
-      record {
-        listings = w.listings;
-        small = omega (arith, w.counted, w.small);
-        flat = omega (arith, w.deep, w.flat);
-        known = r.known;
-        named = w.named;
-        enough = omega (arith, w.counted, r.enough);
       }
 
   pub head_written : (density time language : ℕ) → n ≡ spacing_of density → (o₀ o₁ o₂ o₃ : List ℕ)

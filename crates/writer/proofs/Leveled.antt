@@ -29,9 +29,6 @@ module _ (content : ℕ) (s starts : List ℕ) (k : Kind) (n m all base end : �
     pub rest : j + length (coming left here) ≡ end + length (coming all base)
     pub whole : sets out (204 + 4096 * j) (bytes_of j (coming left here)) ≡ sets out₀ (204 + 4096 * end) (bytes_of end (coming all base))
 
-  pub leveled_start : Leveled out₀ all base end
-  leveled_start = record { kept = refl; rest = refl; whole = refl }
-
   module _ (out : List ℕ) (left here j : ℕ) (p : Leveled out left here j) where
     pub leveled_end : rows_from content s (take end starts) k left here ≡ []
         → (j ≡ end + length (coming all base)) × (out ≡ sets out₀ (204 + 4096 * end) (bytes_of end (coming all base)))

@@ -1,7 +1,6 @@
--- The loop that reads the input: before each entry (`Reading`), and what a turn leaves. The next entry is at `here`, and `left` may be taken; the
--- name before it is the `len` bytes at `from`, and f has the chunks so far.
+-- The loop that reads the input: before each entry (`Reading`), and what a turn leaves. The next entry is at `here`, and `left` may be taken; `last`
+-- is the name before it, and f has the chunks so far.
 use Rattle.fields.proofs.Base.{◌≡◌, refl, sym, ap, ◌∙◌, Bool, true, false, cond, ◌&&◌, List, [], ◌∷◌, map, ℕ, ◌+◌, ◌-◌, ◌*◌, ◌^◌, ◌≤◌, ◌<◌, arith, add-one, length, take, set, length-set, sets, eqb, lt-leb, eq-eqb, ne_eqb, Some}
-use Rattle.fields.specs.Part.{part}
 use Rattle.fields.proofs.Tests.{and_no}
 use Rattle.names.specs.Names.{below}
 use Rattle.entries.specs.Entry.{listing_at, name_of}
@@ -34,13 +33,12 @@ module _ (content : ℕ) (s : List ℕ) (n : ℕ) (starts₀ : List ℕ) where
   abbrev all : List (List Place)
   all = chunks_from content s [] Listing n (length s) 0
 
-  pub record Reading (starts : List ℕ) (left here from len : ℕ) (f : Open) : Type 0 where
+  pub record Reading (starts : List ℕ) (left here : ℕ) (last : List ℕ) (f : Open) : Type 0 where
     pub kept : length starts ≡ length starts₀
-    pub named : from + len ≤ length s
     pub small : f.bytes ≤ 4096
     pub counted : f.count ≤ f.bytes
     pub numbered : f.chunks + left ≤ length s
-    pub right : passes s here (part s from len) (ahead content s left here) ≡ input_right content s
+    pub right : passes s here last (ahead content s left here) ≡ input_right content s
     pub rest : f.chunks + length (coming f left here) ≡ length all
     pub whole : sets starts f.chunks (map first_at (coming f left here)) ≡ sets starts₀ 0 (map first_at all)
 
@@ -54,11 +52,10 @@ module _ (content : ℕ) (s : List ℕ) (n : ℕ) (starts₀ : List ℕ) where
   unfolding chunks_from
   all_coming = later_first (row_size Listing) (fits Listing n) 0 4096 (rows (length s) 0) none_fits
 
-  pub reading_start : (length s ≡ 0 → ⊥) → Reading starts₀ (length s) 0 0 0 (record { chunks = 0; count = 0; bytes = 4096 })
+  pub reading_start : (length s ≡ 0 → ⊥) → Reading starts₀ (length s) 0 [] (record { chunks = 0; count = 0; bytes = 4096 })
   reading_start h =
       record {
         kept = refl;
-        named = omega arith;
         small = omega arith;
         counted = omega arith;
         numbered = omega arith;
@@ -67,14 +64,14 @@ module _ (content : ℕ) (s : List ℕ) (n : ℕ) (starts₀ : List ℕ) where
         whole = ap (λ (gs : List (List Place)). sets starts₀ 0 (map first_at gs)) all_coming;
       }
 
-  module _ (starts : List ℕ) (left here from len : ℕ) (f : Open) (p : Reading starts left here from len f) where
+  module _ (starts : List ℕ) (left here : ℕ) (last : List ℕ) (f : Open) (p : Reading starts left here last f) where
     module _ (q : ahead content s left here ≡ []) where
       none_coming : coming f left here ≡ []
       unfolding item_from
       none_coming = ap (later (row_size Listing) (fits Listing n) f.count f.bytes) q ∙ later_none (row_size Listing) (fits Listing n) f.count f.bytes
 
       right_here : input_right content s ≡ eqb here (length s)
-      right_here = sym p.right ∙ passes_end content s left here (part s from len) q
+      right_here = sym p.right ∙ passes_end content s left here last q
 
       pub reading_end : here ≡ length s → ListingLevel content s n starts₀ starts f.chunks
       reading_end h =
@@ -88,8 +85,8 @@ module _ (content : ℕ) (s : List ℕ) (n : ℕ) (starts₀ : List ℕ) where
       reading_short h = right_here ∙ ne_eqb here (length s) h
 
     module _ (e : Place) (some : 0 < left) (q : listing_at content s here ≡ Some e) where
-      right_entry : input_right content s ≡ (unpadded s e && (below (part s from len) (name_of s e) && passes s e.next (name_of s e) (ahead content s (left - 1) e.next)))
-      right_entry = sym p.right ∙ passes_more content s left here (part s from len) e some q
+      right_entry : input_right content s ≡ (unpadded s e && (below last (name_of s e) && passes s e.next (name_of s e) (ahead content s (left - 1) e.next)))
+      right_entry = sym p.right ∙ passes_more content s left here last e some q
 
       -- the size of what is written for it
       written_size : length (entry_bytes Listing (stored_of s e)) ≡ row_size Listing e
@@ -104,7 +101,7 @@ module _ (content : ℕ) (s : List ℕ) (n : ℕ) (starts₀ : List ℕ) where
       short_entry : (size : ℕ) → size ≡ row_size Listing e → e.next - e.at ≡ size → unpadded s e ≡ true
       short_entry size z h = eq-eqb e.next (e.at + length (entry_bytes Listing (stored_of s e))) (omega (arith, written_size, (listing_inside content s here e q).moves, (listing_inside content s here e q).same))
 
-      pub reading_falls : below (part s from len) (name_of s e) ≡ false → input_right content s ≡ false
+      pub reading_falls : below last (name_of s e) ≡ false → input_right content s ≡ false
       reading_falls h = rw (h, and_no) at right_entry
 
       pub reading_next : length s < 2 ^ 64 → (size : ℕ) → size ≡ row_size Listing e → Next f e size
@@ -122,13 +119,13 @@ module _ (content : ℕ) (s : List ℕ) (n : ℕ) (starts₀ : List ℕ) where
       unfolding item_from
       row_coming = run_more (item_from content s [] Listing) left here e some q
 
-      module _ (size : ℕ) (z₁ : size ≡ row_size Listing e) (z₂ : e.next - e.at ≡ size) (h : below (part s from len) (name_of s e) ≡ true) where
+      module _ (size : ℕ) (z₁ : size ≡ row_size Listing e) (z₂ : e.next - e.at ≡ size) (h : below last (name_of s e) ≡ true) where
         right_on : passes s e.next (name_of s e) (ahead content s (left - 1) e.next) ≡ input_right content s
         right_on = sym (rw (short_entry size z₁ z₂, h) at right_entry)
 
         -- by whether it fits
         turn : (t : Bool) → fits Listing n (f.count + 1) (f.bytes + row_size Listing e) ≡ t
-            → Reading (cond t starts (set starts f.chunks e.at)) (left - 1) e.next e.start e.len
+            → Reading (cond t starts (set starts f.chunks e.at)) (left - 1) e.next (name_of s e)
             (cond t (record { chunks = f.chunks; count = f.count + 1; bytes = f.bytes + row_size Listing e }) (record { chunks = f.chunks + 1; count = 1; bytes = row_size Listing e }))
         unfolding first_at
         turn true z =
@@ -138,7 +135,6 @@ module _ (content : ℕ) (s : List ℕ) (n : ℕ) (starts₀ : List ℕ) where
             ap (later (row_size Listing) (fits Listing n) f.count f.bytes) row_coming ∙ later_fits (row_size Listing) (fits Listing n) f.count f.bytes e (rows (left - 1) e.next) z in
             record {
               kept = p.kept;
-              named = g.name;
               small = omega (arith, fits_small Listing n (f.count + 1) (f.bytes + row_size Listing e) z);
               counted = omega (arith, p.counted, row_long Listing e, g.some);
               numbered = omega (arith, p.numbered);
@@ -154,7 +150,6 @@ module _ (content : ℕ) (s : List ℕ) (n : ℕ) (starts₀ : List ℕ) where
             ap (later (row_size Listing) (fits Listing n) f.count f.bytes) row_coming ∙ later_full (row_size Listing) (fits Listing n) f.count f.bytes e (rows (left - 1) e.next) z in
             record {
               kept = length-set starts f.chunks e.at ∙ p.kept;
-              named = g.name;
               small = omega (arith, row_short Listing e g.short);
               counted = omega (arith, row_long Listing e, g.some);
               numbered = omega (arith, p.numbered);
@@ -166,7 +161,7 @@ module _ (content : ℕ) (s : List ℕ) (n : ℕ) (starts₀ : List ℕ) where
                   ∙ p.whole;
             }
 
-        pub reading_turn : (x : Open) (after : List ℕ) → x ≡ open_with n f e → after ≡ starts_with n f e starts → Reading after (left - 1) e.next e.start e.len x
+        pub reading_turn : (x : Open) (after : List ℕ) → x ≡ open_with n f e → after ≡ starts_with n f e starts → Reading after (left - 1) e.next (name_of s e) x
         unfolding open_with starts_with
         reading_turn x after i w = rw (i, w) (turn _ refl)
 

@@ -9,7 +9,7 @@ use Rattle.pack.specs.Fill.{extent_from}
 use Rattle.pack.specs.Starts.{chunks_from, first_at}
 use Rattle.pack.specs.declared.Extent.{Extent}
 use Rattle.pack.proofs.Levels.{chunks_none, chunks_more}
-use Rattle.writer.specs.Plan.{LevelPlanned}
+use Rattle.writer.specs.Plan.{IndexLevel}
 
 module _ (content : ℕ) (s : List ℕ) (n base end : ℕ) (starts₀ : List ℕ) where
   -- the chunks from a cursor on
@@ -24,31 +24,21 @@ module _ (content : ℕ) (s : List ℕ) (n base end : ℕ) (starts₀ : List ℕ
     pub rest : j + length (coming left here) ≡ end + length (coming (end - base) base)
     pub whole : sets starts j (map first_at (coming left here)) ≡ sets starts₀ end (map first_at (coming (end - base) base))
 
-  pub planning_start : end ≤ length starts₀ → Planning starts₀ (end - base) base end
-  planning_start h = record { behind = omega arith; room = h; kept = refl; front = refl; rest = refl; whole = refl }
-
   module _ (starts : List ℕ) (left here j : ℕ) (p : Planning starts left here j) where
-    pub planning_end : rows_from content s (take end starts₀) Index left here ≡ [] → LevelPlanned content s n base end starts₀ starts j
+    pub planning_end : rows_from content s (take end starts₀) Index left here ≡ [] → IndexLevel content s n base end starts₀ starts j
     planning_end q =
         let z = chunks_none content s (take end starts₀) Index n left here q in
         record {
-          most = omega (arith, p.room);
-          count = λ _. omega (arith, ap length z, p.rest);
-          places = λ _. ap (λ (gs : List (List Place)). sets starts j (map first_at gs)) (sym z) ∙ p.whole;
-          over = λ o. absurd (omega (arith, p.room));
+          room = p.room;
+          count = omega (arith, ap length z, p.rest);
+          places = ap (λ (gs : List (List Place)). sets starts j (map first_at gs)) (sym z) ∙ p.whole;
         }
 
     module _ (e : Place) (some : 0 < left) (q : item_from content s (take end starts₀) Index here ≡ Some e) where
-      pub planning_over : length starts ≤ j → LevelPlanned content s n base end starts₀ starts (length starts + 1)
+      pub planning_over : length starts ≤ j → length starts₀ < end + length (coming (end - base) base)
       planning_over h =
           let m = chunks_more content s (take end starts₀) Index n left here e (extent_from Index n 0 0 here left (rows_from content s (take end starts₀) Index left here)) some q refl in
-          let kept = p.kept in
-          record {
-            most = omega arith;
-            count = λ o. absurd (omega arith);
-            places = λ o. absurd (omega arith);
-            over = λ _. omega (arith, ap length m.chunks, p.rest);
-          }
+          omega (arith, p.kept, ap length m.chunks, p.rest)
 
       pub planning_turn : (f : Extent) → f ≡ extent_from Index n 0 0 here left (rows_from content s (take end starts₀) Index left here) → j < length starts
           → Planning (set starts j e.at) f.left f.at (j + 1)

@@ -10,7 +10,7 @@ use Rattle.pack.proofs.Levels.{chunks_children, starts_of}
 use Rattle.pack.proofs.Above.{upper, above_more, above_none}
 use Rattle.layout.specs.Layout.{Layout, layout_over, chunk_count, layout_depth, small_enough}
 use Rattle.layout.proofs.Small.{too_many, too_deep}
-use Rattle.writer.specs.Plan.{ListingLevel, LevelPlanned, LevelsPlanned}
+use Rattle.writer.specs.Plan.{ListingLevel, IndexLevel, LevelsPlanned}
 use Rattle.fields.proofs.Parts.{length_part, part_alike}
 use Rattle.entries.specs.declared.Kind.TheVariants.{Listing, Index}
 use Rattle.writer.proofs.Lent.{written_back, front_kept}
@@ -132,42 +132,42 @@ module _ (content : ℕ) (s : List ℕ) (n : ℕ) (leaves : List (List Stored)) 
       count_above : length (flatten (levels_above n (6 - depth) base p.gs)) ≡ length up + length (flatten (levels_above n (6 - (depth + 1)) end up))
       count_above = above_count n depth base end p.gs p.size p.high more
 
-      module _ (after : List ℕ) (next : ℕ) (same : length after ≡ length starts) (q : LevelPlanned content s n base end starts after next) where
-        up_count : length (chunks_from content s (take end starts) Index n (end - base) base) ≡ length up
-        up_count = upper_count content s n starts base end p.gs p.size p.inside p.named
+      up_count : length (chunks_from content s (take end starts) Index n (end - base) base) ≡ length up
+      up_count = upper_count content s n starts base end p.gs p.size p.inside p.named
 
-        pub shaping_over : length starts < next → small_enough l ≡ false
-        shaping_over h = too_many l (omega (arith, q.over h, up_count, count_above, p.count, p.kept))
+      pub shaping_over : length starts < end + length (chunks_from content s (take end starts) Index n (end - base) base) → small_enough l ≡ false
+      shaping_over h = too_many l (omega (arith, up_count, count_above, p.count, p.kept))
 
-        pub shaping_turn : next ≤ length starts → (depth ≡ 5 → ⊥) → Shaping m after (depth + 1) end next
-        shaping_turn h five =
-            let L = chunks_from content s (take end starts) Index n (end - base) base in
-            let c = q.count h in
-            let ps : List ℕ = map first_at L in
-            let lp : length ps ≡ length L = length-map L first_at in
-            let uc = up_count in
-            let w = q.places h in
-            let room : end + length ps ≤ length starts = omega arith in
-            let back : part after end (length up) ≡ ps =
-            ap (λ (j : ℕ). part after end j) (sym (lp ∙ uc)) ∙ ap (λ (y : List ℕ). part y end (length ps)) w ∙ written_back starts end ps room in
-            let front : take end after ≡ take end starts = ap (take end) w ∙ front_kept starts end ps room in
-            let ui = upper_is content s n starts base end p.gs p.size p.inside p.named in
-            let sz : end + length up ≡ next = omega arith in
-            record {
-              gs = up;
-              listings = p.listings;
-              size = sz;
-              inside = omega arith;
-              kept = same ∙ p.kept;
-              low = omega arith;
-              high = omega (arith, p.high);
-              named = subst (λ (y : List ℕ). Starts s y up) (sym back) (subst (Starts s ps) ui (starts_of content s (take end starts) Index n (end - base) base));
-              count = omega (arith, count_above, p.count);
-              deep = omega (arith, ap length level_above, p.deep);
-              final = λ f e a.
-                  let fe : take end f ≡ take end starts = sym (take-take end next f (omega arith)) ∙ ap (take end) e ∙ take-take end next after (omega arith) ∙ front in
-                  p.final f fe
-                  (subst (λ (l : List (List (List Stored))). AllStarts s f base (p.gs ∷ l)) (sym level_above)
-                  (AllStarts.level (subst (λ (y : List ℕ). Starts s y p.gs) (sym (part_alike f starts base (length p.gs) end p.size fe)) p.named)
-                  (subst (λ (j : ℕ). AllStarts s f j (up ∷ levels_above n (6 - (depth + 1)) end up)) (sym p.size) a)));
-            }
+      pub shaping_turn : (after : List ℕ) (next : ℕ) → length after ≡ length starts → IndexLevel content s n base end starts after next → (depth ≡ 5 → ⊥)
+          → Shaping m after (depth + 1) end next
+      shaping_turn after next same q five =
+          let L = chunks_from content s (take end starts) Index n (end - base) base in
+          let c = q.count in
+          let ps : List ℕ = map first_at L in
+          let lp : length ps ≡ length L = length-map L first_at in
+          let uc = up_count in
+          let w = q.places in
+          let room : end + length ps ≤ length starts = omega (arith, q.room) in
+          let back : part after end (length up) ≡ ps =
+          ap (λ (j : ℕ). part after end j) (sym (lp ∙ uc)) ∙ ap (λ (y : List ℕ). part y end (length ps)) w ∙ written_back starts end ps room in
+          let front : take end after ≡ take end starts = ap (take end) w ∙ front_kept starts end ps room in
+          let ui = upper_is content s n starts base end p.gs p.size p.inside p.named in
+          let sz : end + length up ≡ next = omega arith in
+          record {
+            gs = up;
+            listings = p.listings;
+            size = sz;
+            inside = omega (arith, q.room);
+            kept = same ∙ p.kept;
+            low = omega arith;
+            high = omega (arith, p.high);
+            named = subst (λ (y : List ℕ). Starts s y up) (sym back) (subst (Starts s ps) ui (starts_of content s (take end starts) Index n (end - base) base));
+            count = omega (arith, count_above, p.count);
+            deep = omega (arith, ap length level_above, p.deep);
+            final = λ f e a.
+                let fe : take end f ≡ take end starts = sym (take-take end next f (omega arith)) ∙ ap (take end) e ∙ take-take end next after (omega arith) ∙ front in
+                p.final f fe
+                (subst (λ (l : List (List (List Stored))). AllStarts s f base (p.gs ∷ l)) (sym level_above)
+                (AllStarts.level (subst (λ (y : List ℕ). Starts s y p.gs) (sym (part_alike f starts base (length p.gs) end p.size fe)) p.named)
+                (subst (λ (j : ℕ). AllStarts s f j (up ∷ levels_above n (6 - (depth + 1)) end up)) (sym p.size) a)));
+          }

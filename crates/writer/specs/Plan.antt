@@ -54,13 +54,16 @@ abbrev pub ListingPlanned : ℕ → List ℕ → ℕ → List ℕ → List ℕ �
 ListingPlanned content s n starts₀ starts (Some m) = ListingLevel content s n starts₀ starts m
 ListingPlanned content s n starts₀ starts None = input_right content s ≡ false
 
--- ---- an index level that is planned: its chunks are numbered from `end` on; r is the number behind the last
+-- ---- an index level that is planned: its chunks are numbered from `end` on; r is the number behind the last, where there is room for them
 
-pub record LevelPlanned (content : ℕ) (s : List ℕ) (n base end : ℕ) (starts₀ starts : List ℕ) (r : ℕ) : Type 0 where
-  pub most : r ≤ length starts₀ + 1
-  pub count : r ≤ length starts₀ → r ≡ end + length (chunks_from content s (take end starts₀) Index n (end - base) base)
-  pub places : r ≤ length starts₀ → starts ≡ sets starts₀ end (map first_at (chunks_from content s (take end starts₀) Index n (end - base) base))
-  pub over : length starts₀ < r → length starts₀ < end + length (chunks_from content s (take end starts₀) Index n (end - base) base)
+pub record IndexLevel (content : ℕ) (s : List ℕ) (n base end : ℕ) (starts₀ starts : List ℕ) (r : ℕ) : Type 0 where
+  pub room : r ≤ length starts₀
+  pub count : r ≡ end + length (chunks_from content s (take end starts₀) Index n (end - base) base)
+  pub places : starts ≡ sets starts₀ end (map first_at (chunks_from content s (take end starts₀) Index n (end - base) base))
+
+abbrev pub LevelPlanned : ℕ → List ℕ → ℕ → ℕ → ℕ → List ℕ → List ℕ → Option ℕ → Type 0
+LevelPlanned content s n base end starts₀ starts (Some r) = IndexLevel content s n base end starts₀ starts r
+LevelPlanned content s n base end starts₀ starts None = length starts₀ < end + length (chunks_from content s (take end starts₀) Index n (end - base) base)
 
 -- ---- all levels of a layout, planned: m is the number of its listing chunks
 

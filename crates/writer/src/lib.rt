@@ -4,8 +4,6 @@
 ghost use Rattle.std.specs.Prelude.{◌≡◌, ◌+◌, ◌*◌, ◌<◌, ◌≤◌, length, take};
 ghost use mathlib.Core.List.{flatten, map};
 ghost use Rattle.std.proofs.lemmas.List.Edits.{sets};
-ghost use Rattle.fields.specs.Part.{part};
-ghost use Rattle.names.specs.Names.{below};
 ghost use Rattle.entries.specs.Entry.{listing_at};
 ghost use Rattle.chunk_fields.specs.ChunkFields.{spacing_of};
 ghost use Rattle.entries.specs.Stored.{stored_of};
@@ -52,14 +50,6 @@ fn is_taken(density: u32, content: u64) -> bool
         return false;
     }
     true
-}
-
-// Whether the n bytes at `start` are a name that comes after the one of `len` bytes at `from`.
-fn rises(input: &[u8], from: usize, len: usize, start: usize, n: usize) -> bool
-    requires { (from + len ≤ length input.now) × (start + n ≤ length input.now) }
-    ensures { result ≡ below (part input.now from len) (part input.now start n) }
-{
-    names::is_below(&input[from..from + len], &input[start..start + n])
 }
 
 // One listing entry more, which is written in `size` bytes: in the last chunk where it fits, else as the first of a new one. Then its place is stored, where `starts` has room.
@@ -109,8 +99,7 @@ fn plan_listing(input: &[u8], content: u64, n: usize, starts: &mut [usize]) -> O
     }
     let mut at: usize = 0;
     let mut left = input.len();
-    let mut from: usize = 0;
-    let mut len: usize = 0;
+    let mut last = &input[0..0];
     // no chunk yet: as behind a full one
     let mut f = Open {
         chunks: 0,
@@ -128,19 +117,19 @@ fn plan_listing(input: &[u8], content: u64, n: usize, starts: &mut [usize]) -> O
         if e.next - e.at != size {
             return None;
         }
-        if !rises(input, from, len, e.start, e.len) {
+        let name = &input[e.start..e.start + e.len];
+        if !names::is_below(last, name) {
             return None;
         }
         f = add(starts, n, f, e, size);
-        from = e.start;
-        len = e.len;
+        last = name;
         at = e.next;
         left -= 1;
     }
 }
 
 // Stores the places of the first names of the chunks of an index level, which are numbered from `end` on; `starts` has those of the chunks before.
-// Returns the number behind the last; one more than `starts` has, where it has too few. No `for`: how many chunks there are is known when the entries end.
+// Returns the number behind the last; none where `starts` has too little room. No `for`: how many chunks there are is known when the entries end.
 fn plan_level(
     input: &[u8],
     content: u64,
@@ -148,8 +137,8 @@ fn plan_level(
     starts: &mut [usize],
     base: usize,
     end: usize,
-) -> usize
-    requires { (base ≤ end) × (end ≤ length starts.old) × (length starts.old ≤ 4096) }
+) -> Option<usize>
+    requires { (base ≤ end) × (end ≤ length starts.old) }
     ensures { LevelPlanned content input.now n base end starts.old starts.new result }
 {
     let left = end - base;
@@ -161,10 +150,10 @@ fn plan_level(
     let mut j = end;
     loop {
         let Some(e) = source::step(input, &starts[..end], content, c) else {
-            return j;
+            return Some(j);
         };
         if starts.len() <= j {
-            return starts.len() + 1;
+            return None;
         }
         let f = pack::fill(input, &starts[..end], content, c, n);
         starts[j] = e.at;
@@ -196,10 +185,9 @@ fn plan(input: &[u8], content: u64, n: usize, starts: &mut [usize]) -> Result<Si
         if depth == 5 {
             return Err(Rule::TooManyChunks);
         }
-        let next = plan_level(input, content, n, starts, base, end);
-        if starts.len() < next {
+        let Some(next) = plan_level(input, content, n, starts, base, end) else {
             return Err(Rule::TooManyChunks);
-        }
+        };
         base = end;
         end = next;
         depth += 1;

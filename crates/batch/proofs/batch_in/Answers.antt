@@ -1,7 +1,7 @@
 use Rattle.fields.proofs.Base.{◌≡◌, sym, ap, ◌∙◌, Some, Err}
 use Rattle.batch.specs.Batch.{names_in}
 use Rattle.batch.specs.Step.{counted_as}
-use Rattle.batch.proofs.Called.{in_cut, in_short, in_room, in_done}
+use Rattle.batch.proofs.Called.{in_cut, in_short, in_done}
 use Rattle.batch.proofs.batch_in.Goals as goal
 
 pub returns-in_default : goal.returns-in_default
@@ -16,13 +16,6 @@ returns-then-answers-n c =
     let a = c.args in
     let r = in_short a.file.now a.book a.names.now a.answers.now _ count_is c.if-answers-n.true in
     record { answer = ap (λ x. Err x) c.refuse-then-answers-n.ensures ∙ r.0; answers = r.1 }
-
-pub put_results-requires : goal.put_results-requires
-put_results-requires c =
-    let count_is : Some c.in-Some.n ≡ counted_as 0 (names_in c.args.names.now) =
-    sym c.in-Some.is ∙ c.count_names.ensures in
-    let a = c.args in
-    in_room a.file.now a.book a.names.now a.answers.now _ count_is c.if-answers-n.false
 
 pub returns : goal.returns
 returns c =

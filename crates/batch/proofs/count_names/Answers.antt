@@ -20,9 +20,6 @@ returns-in_err-len c = c.from_residual.ensures ∙ counting_cut c.args.names.now
 pub overflow_add-at : goal.overflow_add-at
 overflow_add-at c = omega (arith, inside (goal.at.overflow_add-at c).In_ok-len)
 
-pub overflow_add-n : goal.overflow_add-n
-overflow_add-n c = omega (arith, inside (goal.at.overflow_add-n c).In_ok-len)
-
 pub loop-at-smaller : goal.loop-at-smaller
 loop-at-smaller c = omega (arith, inside (goal.at.loop-at-smaller c).In_ok-len)
 

@@ -1,7 +1,7 @@
 use Rattle.fields.proofs.Base.{◌≡◌, sym, ap, ◌∙◌, ◌+◌, ◌≤◌, ◌<◌, add-sub_cancel_left, arith, length, sets, Some}
 use Rattle.batch.specs.Batch.{asked_at, result_of}
 use Rattle.batch.proofs.Asked.{asked_inside}
-use Rattle.batch.proofs.Results.{left_start, left_end, left_cut, left_room, left_turn}
+use Rattle.batch.proofs.Results.{left_end, left_cut, left_room, left_turn}
 use Rattle.batch.proofs.put_results.Goals.{In-Some}
 use Rattle.batch.proofs.put_results.Goals as goal
 
@@ -14,9 +14,6 @@ inside c =
     let a = c.args in
     let i = asked_inside _ _ _ _ (read_is c) in
     (i.0, i.1, left_room a.file.now a.book a.names.now _ _ _ _ c.loop-at.invariant c.loop-at-test.true _ _ (read_is c))
-
-pub loop-at-init : goal.loop-at-init
-loop-at-init c = left_start c.args.file.now c.args.book c.args.names.now c.args.out.now c.requires
 
 pub returns-in_default : goal.returns-in_default
 returns-in_default c = let a = c.args in
@@ -31,9 +28,6 @@ slice_bounds-fetch-end c = omega (arith, inside (goal.at.slice_bounds-fetch-end 
 
 pub put_result-requires : goal.put_result-requires
 put_result-requires c = (inside (goal.at.put_result-requires c).In-Some).2
-
-pub overflow_add-at : goal.overflow_add-at
-overflow_add-at c = omega (arith, inside (goal.at.overflow_add-at c).In-Some)
 
 pub loop-at-smaller : goal.loop-at-smaller
 loop-at-smaller c = omega (arith, inside (goal.at.loop-at-smaller c).In-Some)

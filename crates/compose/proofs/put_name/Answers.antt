@@ -10,18 +10,6 @@ use Rattle.compose.proofs.put_name.Goals as goal
 number_at : (c : After-write) → (c.write.result ≡ length (encoded c.args.n)) × (c.write.new.out ≡ sets c.args.out.now c.args.at (encoded c.args.n))
 number_at c = written c.args.out.now c.args.at c.args.n _ _ (omega (arith, c.requires.0)) c.write.ensures.count c.write.ensures.bytes
 
-pub overflow_add-from : goal.overflow_add-from
-overflow_add-from c =
-    omega (arith, (number_at (goal.at.overflow_add-from c).After-write).0)
-
-pub put_run-requires : goal.put_run-requires
-put_run-requires c =
-    (omega (arith, (number_at (goal.at.put_run-requires c).After-write).0, c.write.auto.out), c.requires.1)
-
-pub overflow_add-result : goal.overflow_add-result
-overflow_add-result c =
-    omega (arith, (number_at (goal.at.overflow_add-result c).After-write).0)
-
 pub returns : goal.returns
 returns c =
     let a = c.args in

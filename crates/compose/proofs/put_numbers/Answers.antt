@@ -13,14 +13,6 @@ second_number c =
     let x = written c.args.out.now c.args.at c.args.section _ _ (omega arith) c.write.ensures.count c.write.ensures.bytes in
     written c.write.new.out (c.args.at + c.write.result) c.args.offset _ _ (omega (arith, x.0, c.write.auto.out)) c.write-2.ensures.count c.write-2.ensures.bytes
 
-pub overflow_add-from : goal.overflow_add-from
-overflow_add-from c =
-    omega (arith, (first_number (goal.at.overflow_add-from c).After-write).0)
-
-pub overflow_add-then : goal.overflow_add-then
-overflow_add-then c =
-    omega (arith, (first_number (goal.at.overflow_add-then c).After-write).0, (second_number (goal.at.overflow_add-then c).After-write-2).0)
-
 pub returns : goal.returns
 returns c =
     let a = c.args in

@@ -1,16 +1,10 @@
-use Rattle.fields.proofs.Base.{◌≡◌, sym, ap, ◌∙◌, cond, List, ℕ, arith, length, replicate, eqb, eq-eqb, ne_eqb}
+use Rattle.fields.proofs.Base.{◌≡◌, sym, ap, ◌∙◌, cond, List, ℕ, arith, length, replicate, eqb, eq-eqb}
 use Rattle.compose.proofs.Whole.{Told, extent_told, chunk_written}
 use Rattle.compose.proofs.write_chunk.Goals as goal
 
 -- the choice by the lent part's size
-other_size : (out x : List ℕ) → (length out ≡ 4096 → ⊥) → out ≡ cond (eqb (length out) 4096) x out
-other_size out x h = rw (ne_eqb (length out) 4096 h)
-
 whole_size : (out x : List ℕ) → length out ≡ 4096 → x ≡ cond (eqb (length out) 4096) x out
 whole_size out x h = rw (eq-eqb (length out) 4096 h)
-
-pub returns-then-out-ne4096 : goal.returns-then-out-ne4096
-returns-then-out-ne4096 c = record { answer = c.fill.ensures; written = other_size _ _ c.if-out-ne4096.true }
 
 pub put_entries-f-requires : goal.put_entries-f-requires
 put_entries-f-requires c = let z = c.fill-2 in

@@ -1,4 +1,4 @@
-use Rattle.fields.proofs.Base.{refl, sym, ◌∙◌, arith}
+use Rattle.fields.proofs.Base.{sym, ◌∙◌, arith}
 use Rattle.pack.proofs.Filling.{Fitted, fitted, full}
 use Rattle.pack.proofs.fill.Goals.{In-Some}
 use Rattle.pack.proofs.fill.Goals as goal
@@ -6,9 +6,6 @@ use Rattle.pack.proofs.fill.Goals as goal
 -- the entry that comes next
 next : (c : In-Some) → Fitted c.args.content c.args.input.now c.args.starts.now c.args.from.kind c.args.n c.loop-e.f.count c.loop-e.f.bytes c.loop-e.f.left c.loop-e.f.at c.in-Some.e c.in-Some.bytes
 next c = fitted _ _ _ _ _ _ _ _ _ _ _ (sym c.next_fit.ensures ∙ c.in-Some.is)
-
-pub loop-e-init : goal.loop-e-init
-loop-e-init c = (omega arith, omega arith, refl)
 
 pub returns-in_default : goal.returns-in_default
 returns-in_default c = sym (full _ _ _ _ _ _ _ _ _ (sym c.next_fit.ensures ∙ c.in_default.is)) ∙ c.loop-e.invariant.2

@@ -25,14 +25,6 @@ returns-in_default c =
     (sym read_is ∙ c.in_default.is) in
     absurd never_bad
 
-pub put_report-requires : goal.put_report-requires
-put_report-requires c =
-    let count_is : let a = c.args in
-    c.entry_count-total.result ≡ entry_count (chunk_bytes a.file.now a.book a.chunk) =
-    rw (← c.chunk_bytes-c.ensures) c.entry_count-total.ensures in
-    let n = count_is in
-    omega (arith, c.loop-i.invariant.size, c.requires.chunk_in_bounds)
-
 pub loop-i-preserved : goal.loop-i-preserved
 unfolding item_at
 loop-i-preserved c =

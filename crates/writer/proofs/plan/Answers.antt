@@ -1,4 +1,4 @@
-use Rattle.fields.proofs.Base.{arith, refl, inl, inr}
+use Rattle.fields.proofs.Base.{arith, refl, inl}
 use Rattle.pack.proofs.Levels.{chunks_given}
 use Rattle.writer.specs.Plan.{ListingLevel}
 use Rattle.writer.proofs.Shaping.{first_over, shaping_start, shaping_end, shaping_deep, shaping_over, shaping_turn}
@@ -8,9 +8,6 @@ use Rattle.writer.proofs.plan.Goals as goal
 -- the listing level
 listed : (c : In-Some) → ListingLevel c.args.content c.args.input.now c.args.n c.args.starts.now c.plan_listing.new.starts c.in-Some.m
 listed c = rw c.in-Some.is at c.plan_listing.ensures
-
-pub returns-in_default : goal.returns-in_default
-returns-in_default c = inr (refl, rw c.in_default.is at c.plan_listing.ensures)
 
 pub returns-then-starts-m : goal.returns-then-starts-m
 returns-then-starts-m c =
@@ -26,30 +23,16 @@ loop-end-init c =
     let s = c.requires in
     (l.right, shaping_start _ _ _ _ _ _ _ s k l (chunks_given _ _ _ _) (omega (arith, k, s, c.if-starts-m.false)))
 
-pub overflow_sub-end : goal.overflow_sub-end
-overflow_sub-end c = omega (arith, c.loop-end.invariant.1.size)
-
 pub returns-then-depth-eq5 : goal.returns-then-depth-eq5
 returns-then-depth-eq5 c = let i = c.loop-end.invariant in inl (refl, i.0, shaping_deep _ _ _ _ _ _ _ _ _ i.1 c.loop-end-test.true c.if-depth-eq5.true)
 
-pub plan_level-next-requires : goal.plan_level-next-requires
-plan_level-next-requires c = let i = c.loop-end.invariant.1 in (omega (arith, i.size), i.inside, omega (arith, i.kept))
-
-pub returns-then-starts-next : goal.returns-then-starts-next
-returns-then-starts-next c = let i = c.loop-end.invariant in
-    let k = c.plan_level-next.auto.starts in
-    inl (refl, i.0, shaping_over _ _ _ _ _ _ _ _ _ i.1 c.loop-end-test.true _ _ k c.plan_level-next.ensures (omega (arith, k, c.if-starts-next.true)))
-
-pub overflow_add-depth : goal.overflow_add-depth
-overflow_add-depth c = omega (arith, c.loop-end.invariant.1.high)
-
-pub loop-end-smaller : goal.loop-end-smaller
-loop-end-smaller c = omega (arith, c.loop-end.invariant.1.high)
+pub returns-in_default-plan_level : goal.returns-in_default-plan_level
+returns-in_default-plan_level c = let i = c.loop-end.invariant in
+    inl (refl, i.0, shaping_over _ _ _ _ _ _ _ _ _ i.1 c.loop-end-test.true (rw c.in_default-plan_level.is at c.plan_level.ensures))
 
 pub loop-end-preserved : goal.loop-end-preserved
 loop-end-preserved c = let i = c.loop-end.invariant in
-    let k = c.plan_level-next.auto.starts in
-    (i.0, shaping_turn _ _ _ _ _ _ _ _ _ i.1 c.loop-end-test.true _ _ k c.plan_level-next.ensures (omega (arith, k, c.if-starts-next.false)) c.if-depth-eq5.false)
+    (i.0, shaping_turn _ _ _ _ _ _ _ _ _ i.1 c.loop-end-test.true _ _ c.plan_level.auto.starts (rw c.in-Some-plan_level.is at c.plan_level.ensures) c.if-depth-eq5.false)
 
 pub returns : goal.returns
 returns c = let i = c.loop-end.invariant in (i.0, shaping_end _ _ _ _ _ _ _ _ _ i.1 c.loop-end-test.false)

@@ -1,10 +1,10 @@
-use Rattle.fields.proofs.Base.{◌≡◌, refl, sym, ◌∙◌, [], arith, take, length-take-le}
+use Rattle.fields.proofs.Base.{◌≡◌, refl, sym, ◌∙◌, [], take}
 use Rattle.entries.specs.declared.Kind.TheVariants.{Index}
 use Rattle.source.specs.Source.{item_from, rows_from}
 use Rattle.source.proofs.Rows.{Stepped, taken_entry, run_end}
 use Rattle.pack.specs.Fill.{extent_from}
 use Rattle.pack.proofs.Levels.{chunks_more}
-use Rattle.writer.proofs.Planning.{planning_start, planning_end, planning_over, planning_turn}
+use Rattle.writer.proofs.Planning.{planning_end, planning_over, planning_turn}
 use Rattle.writer.proofs.plan_level.Goals.{In-Some, In_default, After-fill-f}
 use Rattle.writer.proofs.plan_level.Goals as goal
 
@@ -19,12 +19,6 @@ read_is c = let i = c.loop-e.invariant in taken_entry _ _ _ (sym (rw (i.0, i.1.f
 fill_is : (c : After-fill-f) → c.fill-f.result ≡ extent_from Index c.args.n 0 0 c.loop-e.c.at c.loop-e.c.left (rows_from c.args.content c.args.input.now (take c.args.end c.args.starts.now) Index c.loop-e.c.left c.loop-e.c.at)
 fill_is c = let i = c.loop-e.invariant in rw (i.0, i.1.front) at c.fill-f.ensures
 
-pub loop-e-init : goal.loop-e-init
-loop-e-init c = (refl, planning_start _ _ _ _ _ _ c.requires.1)
-
-pub slice_bounds-step-end-in-loop-e : goal.slice_bounds-step-end-in-loop-e
-slice_bounds-step-end-in-loop-e c = sym (length-take-le c.args.end c.loop-e.starts (omega (arith, c.loop-e.invariant.1.kept, c.requires.1)))
-
 pub returns-in_default : goal.returns-in_default
 returns-in_default c =
     planning_end _ _ _ _ _ _ _ _ _ _ c.loop-e.invariant.1 (end_is (goal.at.returns-in_default c).In_default)
@@ -33,9 +27,6 @@ pub returns-then-starts-j : goal.returns-then-starts-j
 returns-then-starts-j c =
     let e = read_is (goal.at.returns-then-starts-j c).In-Some in
     planning_over _ _ _ _ _ _ _ _ _ _ c.loop-e.invariant.1 _ e.some e.item c.if-starts-j.true
-
-pub slice_bounds-fill-end-in-loop-e : goal.slice_bounds-fill-end-in-loop-e
-slice_bounds-fill-end-in-loop-e c = sym (length-take-le c.args.end c.loop-e.starts (omega (arith, c.loop-e.invariant.1.kept, c.requires.1)))
 
 pub loop-e-smaller : goal.loop-e-smaller
 loop-e-smaller c =

@@ -1,4 +1,4 @@
-use Rattle.fields.proofs.Base.{◌≡◌, sym, ◌∙◌, [], arith}
+use Rattle.fields.proofs.Base.{◌≡◌, sym, ◌∙◌, [], arith, add-sub_cancel_left}
 use Rattle.entries.specs.Entry.{listing_at}
 use Rattle.entries.specs.declared.Kind.TheVariants.{Listing}
 use Rattle.entries.proofs.Laws.{listing_inside}
@@ -29,11 +29,11 @@ loop-e-init c = reading_start _ _ _ _ c.if-input-eq0.false
 
 pub returns-then-at-input : goal.returns-then-at-input
 returns-then-at-input c =
-    reading_end _ _ _ _ _ _ _ _ _ _ c.loop-e.invariant (end_is (goal.at.returns-then-at-input c).In_default) c.if-at-input.true
+    reading_end _ _ _ _ _ _ _ _ _ c.loop-e.invariant (end_is (goal.at.returns-then-at-input c).In_default) c.if-at-input.true
 
 pub returns-in_default : goal.returns-in_default
 returns-in_default c =
-    reading_short _ _ _ _ _ _ _ _ _ _ c.loop-e.invariant (end_is (goal.at.returns-in_default c).In_default) c.if-at-input.false
+    reading_short _ _ _ _ _ _ _ _ _ c.loop-e.invariant (end_is (goal.at.returns-in_default c).In_default) c.if-at-input.false
 
 pub overflow_sub-e : goal.overflow_sub-e
 overflow_sub-e c =
@@ -42,21 +42,23 @@ overflow_sub-e c =
 pub returns-then-e-size : goal.returns-then-e-size
 returns-then-e-size c =
     let i = read_is (goal.at.returns-then-e-size c).In-Some in
-    reading_padded _ _ _ _ _ _ _ _ _ _ c.loop-e.invariant _ i.some i.item _ (sized (goal.at.returns-then-e-size c).After-entry_size-size) c.if-e-size.true
+    reading_padded _ _ _ _ _ _ _ _ _ c.loop-e.invariant _ i.some i.item _ (sized (goal.at.returns-then-e-size c).After-entry_size-size) c.if-e-size.true
 
-pub rises-requires : goal.rises-requires
-rises-requires c =
-    (c.loop-e.invariant.named, (listing_inside _ _ _ _ (read_is (goal.at.rises-requires c).In-Some).item).name)
+pub overflow_add-name : goal.overflow_add-name
+overflow_add-name c = omega (arith, (listing_inside _ _ _ _ (read_is (goal.at.overflow_add-name c).In-Some).item).name)
 
-pub returns-then-not-rises : goal.returns-then-not-rises
-returns-then-not-rises c =
-    let i = read_is (goal.at.returns-then-not-rises c).In-Some in
-    reading_falls _ _ _ _ _ _ _ _ _ _ c.loop-e.invariant _ i.some i.item (sym c.rises.ensures ∙ c.if-not-rises.true)
+pub slice_bounds-name-end : goal.slice_bounds-name-end
+slice_bounds-name-end c = (listing_inside _ _ _ _ (read_is (goal.at.slice_bounds-name-end c).In-Some).item).name
+
+pub returns-then-not-is_below : goal.returns-then-not-is_below
+returns-then-not-is_below c =
+    let i = read_is (goal.at.returns-then-not-is_below c).In-Some in
+    reading_falls _ _ _ _ _ _ _ _ _ c.loop-e.invariant _ i.some i.item (simp add-sub_cancel_left at (sym c.is_below.ensures) ∙ c.if-not-is_below.true)
 
 pub add-f-requires : goal.add-f-requires
 add-f-requires c =
     let i = read_is (goal.at.add-f-requires c).In-Some in
-    reading_next _ _ _ _ _ _ _ _ _ _ c.loop-e.invariant _ i.some i.item (omega arith) _ (sized (goal.at.add-f-requires c).After-entry_size-size)
+    reading_next _ _ _ _ _ _ _ _ _ c.loop-e.invariant _ i.some i.item (omega arith) _ (sized (goal.at.add-f-requires c).After-entry_size-size)
 
 pub overflow_sub-left : goal.overflow_sub-left
 overflow_sub-left c =
@@ -69,4 +71,4 @@ loop-e-smaller c =
 pub loop-e-preserved : goal.loop-e-preserved
 loop-e-preserved c =
     let i = read_is (goal.at.loop-e-preserved c).In-Some in
-    reading_turn _ _ _ _ _ _ _ _ _ _ c.loop-e.invariant _ i.some i.item _ (sized (goal.at.loop-e-preserved c).After-entry_size-size) c.if-e-size.false (sym c.rises.ensures ∙ c.if-not-rises.false) _ _ c.add-f.ensures.0 c.add-f.ensures.1
+    rw add-sub_cancel_left (reading_turn _ _ _ _ _ _ _ _ _ c.loop-e.invariant _ i.some i.item _ (sized (goal.at.loop-e-preserved c).After-entry_size-size) c.if-e-size.false (simp add-sub_cancel_left at (sym c.is_below.ensures) ∙ c.if-not-is_below.false) _ _ c.add-f.ensures.0 c.add-f.ensures.1)

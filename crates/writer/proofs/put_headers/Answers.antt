@@ -6,12 +6,6 @@ use Rattle.writer.specs.Plan.{headers_of}
 use Rattle.layout.proofs.Sizes.{length_file, length_section}
 use Rattle.writer.proofs.put_headers.Goals as goal
 
-pub put_section-requires : goal.put_section-requires
-put_section-requires c = omega (arith, c.requires.0, c.put_file_header.auto.out)
-
-pub put_directory_header-requires : goal.put_directory_header-requires
-put_directory_header-requires c = omega (arith, c.requires.0, c.put_file_header.auto.out, c.put_section.auto.out)
-
 pub returns : goal.returns
 unfolding headers_of
 returns c = let a = c.args in

@@ -5,12 +5,6 @@ use Rattle.writer.proofs.put_index.Goals as goal
 pub loop-end-init : goal.loop-end-init
 loop-end-init c = indexing_start _ _ _ _ _ _ _ c.requires.0 c.requires.1
 
-pub overflow_sub-end : goal.overflow_sub-end
-overflow_sub-end c = omega (arith, c.loop-end.invariant.size)
-
-pub overflow_sub-left : goal.overflow_sub-left
-overflow_sub-left c = omega (arith, c.loop-end-test.true)
-
 pub put_level-next-requires : goal.put_level-next-requires
 put_level-next-requires c = indexing_room _ _ _ _ _ _ _ c.requires.0 _ _ _ c.loop-end.invariant c.loop-end-test.true
 

@@ -1,9 +1,9 @@
-use Rattle.fields.proofs.Base.{◌≡◌, refl, sym, ◌∙◌, [], ◌+◌, ◌*◌, ◌≤◌, ◌<◌, arith, length, take, length-take-le}
+use Rattle.fields.proofs.Base.{◌≡◌, refl, sym, ◌∙◌, [], ◌+◌, ◌*◌, ◌≤◌, ◌<◌, length, take}
 use Rattle.source.specs.Source.{item_from, rows_from}
 use Rattle.source.proofs.Rows.{Stepped, taken_entry, run_end}
 use Rattle.pack.specs.Fill.{extent_from}
 use Rattle.pack.proofs.Levels.{chunks_more}
-use Rattle.writer.proofs.Leveled.{leveled_start, leveled_end, leveled_room, leveled_turn}
+use Rattle.writer.proofs.Leveled.{leveled_end, leveled_room, leveled_turn}
 use Rattle.writer.proofs.put_level.Goals.{In-Some, In_default, After-put_chunk-f}
 use Rattle.writer.proofs.put_level.Goals as goal
 
@@ -21,26 +21,13 @@ room_is c = let i = read_is c in leveled_room _ _ _ _ _ _ _ _ _ _ _ _ _ _ c.loop
 takes_is : (c : After-put_chunk-f) → c.put_chunk-f.result ≡ extent_from c.args.from.kind c.args.n 0 0 c.loop-out.c.at c.loop-out.c.left (rows_from c.args.content c.args.input.now (take c.args.end c.args.starts.now) c.args.from.kind c.loop-out.c.left c.loop-out.c.at)
 takes_is c = rw c.loop-out.invariant.0 at c.put_chunk-f.ensures.0
 
-pub loop-out-init : goal.loop-out-init
-loop-out-init c = (refl, leveled_start _ _ _ _ _ _ _ _ _ _)
-
-pub slice_bounds-step-end : goal.slice_bounds-step-end
-slice_bounds-step-end c = sym (length-take-le c.args.end c.args.starts.now c.requires.known)
-
 pub returns-in_default : goal.returns-in_default
 returns-in_default c =
     leveled_end _ _ _ _ _ _ _ _ _ _ _ _ _ _ c.loop-out.invariant.1 (end_is (goal.at.returns-in_default c).In_default)
 
-pub slice_bounds-put_chunk-end : goal.slice_bounds-put_chunk-end
-slice_bounds-put_chunk-end c = sym (length-take-le c.args.end c.args.starts.now c.requires.known)
-
 pub put_chunk-f-requires : goal.put_chunk-f-requires
 put_chunk-f-requires c =
     room_is (goal.at.put_chunk-f-requires c).In-Some
-
-pub overflow_add-j : goal.overflow_add-j
-overflow_add-j c =
-    omega (arith, (room_is (goal.at.overflow_add-j c).In-Some).1)
 
 pub loop-out-smaller : goal.loop-out-smaller
 loop-out-smaller c =

@@ -32,14 +32,6 @@ made c =
 pub returns-then-not-is_taken : goal.returns-then-not-is_taken
 returns-then-not-is_taken c = let a = c.args in answer_18 a.entries.now a.density a.time a.language a.content_length a.out.now _ (ap Err c.refuse.ensures) (takes_limits _ _ a.entries.now (sym c.is_taken.ensures ∙ c.if-not-is_taken.true))
 
-pub overflow_mul-len : goal.overflow_mul-len
-overflow_mul-len c =
-    omega (arith, (made (goal.at.overflow_mul-len c).In_ok-shape).small)
-
-pub overflow_add-len : goal.overflow_add-len
-overflow_add-len c =
-    omega (arith, (made (goal.at.overflow_add-len c).In_ok-shape).small)
-
 pub returns-then-out-len : goal.returns-then-out-len
 returns-then-out-len c =
     let w = made (goal.at.returns-then-out-len c).In_ok-shape in
