@@ -416,13 +416,13 @@ class Function:
 
 
 def clauses_of(text):
-    """(its word, its text, its first character, its last) of each clause of a function's text."""
-    for m in re.finditer(r'^ *(ensures|requires)\*?(?: \w+)? \{', text, re.M):
+    """(its word, its text, its first character, its last) of each clause of a function's text, and of what an `impl` says that a function of its trait gives."""
+    for m in re.finditer(r'^ *(?:(ensures|requires)\*?(?: \w+)?|ghost \w+_gives =) \{', text, re.M):
         end, deep = m.end(), 1
         while deep:
             deep += (text[end] == '{') - (text[end] == '}')
             end += 1
-        yield m[1], text[m.end():end - 1], m.start(), end
+        yield m[1] or 'ensures', text[m.end():end - 1], m.start(), end
 
 
 class Source:
@@ -477,14 +477,18 @@ class Source:
     def read_functions(self):
         text = '\n'.join(self.bare)
         starts = [m.start() for m in re.finditer(r'\n', text)]
-        owners = [(m.start(), m[1]) for m in re.finditer(r'^impl (\w+)', text, re.M)]
+        owners = [(m.start(), m[1]) for m in re.finditer(r'^impl\b(?:[^{]*? for)? (\w+)', text, re.M)]
+        traits = [(m.start(), m.end(), text.index('\n}', m.end())) for m in re.finditer(r'^impl\b[^{]* for [^{]*\{', text, re.M)]
         for m in re.finditer(r'^( *)(pub )?(?:extern "C" )?fn (\w+)', text, re.M):
             end = text.index('\n' + m[1] + '}', m.start()) if re.search(r'\{', text[m.start():]) else len(text)
             clauses = list(clauses_of(text[m.start():end]))
             ensures = [said for word, said, _, _ in clauses if word == 'ensures']
             requires = [said for word, said, _, _ in clauses if word == 'requires']
+            within = next((begin for _, begin, last in traits if begin < m.start() < last), None)
+            if within is not None:
+                ensures += [said for _, said, first, _ in clauses_of(text[within:m.start()]) if '_gives' in text[within + first:within + first + 60]]
             owner = next((name for at, name in reversed(owners) if at < m.start()), None) if m[1] else None
-            self.functions.append(Function(self, m[3], owner, bool(m[2]), bisect.bisect(starts, m.start()) + 1, ensures, requires))
+            self.functions.append(Function(self, m[3], owner, bool(m[2]) or within is not None, bisect.bisect(starts, m.start()) + 1, ensures, requires))
 
 
 class Crates:

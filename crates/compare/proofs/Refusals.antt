@@ -1,10 +1,10 @@
--- A step's refusal is 17 of no chunk, beside the number of one of the two books: `step_refusal`.
+-- A step's refusal is 17 of no chunk, beside one of the two books: `step_refusal`.
 use Rattle.fields.proofs.Base.{◌≡◌, subst, ◌⊎◌, List, ℕ, zero, suc, Err}
 use Rattle.refusals.specs.Refusals.{refusal_of}
 use Rattle.refusals.specs.declared.Refusal.{Refusal}
 use Rattle.header.specs.declared.Record.{Record}
 use Rattle.walk.specs.Walk.{weight}
-use Rattle.turn.specs.Turn.{turned, which_number}
+use Rattle.turn.specs.Turn.{turned}
 use Rattle.turn.specs.declared.Cursor.{Cursor}
 use Rattle.turn.specs.declared.Turn.{Turn}
 use Rattle.turn.specs.declared.Turn.TheVariants.{Tell, On}
@@ -23,6 +23,6 @@ module _ (s₁ : List ℕ) (b₁ : Record) (s₂ : List ℕ) (b₂ : Record) whe
       go (Tell x) f i = f
       go (On a) f i = i a
 
-  pub step_refusal : (at : Cursor) (k : Which) (r : Refusal) → compare_step s₁ b₁ s₂ b₂ at ≡ Err (k, r) → ((which_number k ≡ 1) ⊎ (which_number k ≡ 2)) × (r ≡ refusal_of BadRecord)
+  pub step_refusal : (at : Cursor) (k : Which) (r : Refusal) → compare_step s₁ b₁ s₂ b₂ at ≡ Err (k, r) → ((k ≡ Which.First) ⊎ (k ≡ Which.Second)) × (r ≡ refusal_of BadRecord)
   unfolding compare_step
   step_refusal at k r e = subst Fair e (step_fair (suc (weight at.first)) at)

@@ -60,6 +60,7 @@ pub fn le64(s: &[u8], at: usize) -> u64
 }
 
 // Whether a and b hold the same bytes.
+#[tactic(auto, using(crate::proofs::Same::same_pointwise))]
 pub fn equal(a: &[u8], b: &[u8]) -> bool
     ensures { result ≡ same a.now b.now }
 {

@@ -127,6 +127,7 @@ pub fn compare(a: &[u8], b: &[u8]) -> Ordering
 }
 
 // Whether a comes before b.
+#[tactic(auto, unfolding(crate::specs::Names::below))]
 pub fn is_below(a: &[u8], b: &[u8]) -> bool
     ensures { result ≡ below a.now b.now }
 {
@@ -134,6 +135,7 @@ pub fn is_below(a: &[u8], b: &[u8]) -> bool
 }
 
 // Whether a compares equal to b.
+#[tactic(auto, unfolding(crate::specs::Names::matches))]
 pub fn is_match(a: &[u8], b: &[u8]) -> bool
     ensures { result ≡ matches a.now b.now }
 {

@@ -2,33 +2,34 @@
 #![tactic(auto)]
 
 ghost use Rattle.std.specs.Prelude.{◌≡◌};
-ghost use Rattle.refusals.specs.Refusals.{no_chunk, number_of, chunk_number, refusal_of, refusal_at};
+ghost use Rattle.refusals.specs.Refusals.{no_chunk, number_of, rule_of, chunk_number, refusal_of, refusal_at};
 
-// The rules, by the numbers of their refusals: docs/FORMAT.md has the row of each.
+// The rules, in the order of the numbers of their refusals: docs/FORMAT.md has the row of each. `Other` is any further number, of a refusal that a caller makes.
 #[derive(Clone, Copy)]
 pub enum Rule {
-    ShortFile = 1,
-    FileTags = 2,
-    WrongVersion = 3,
-    WrongSections = 4,
-    WrongLength = 5,
-    DirectoryTags = 6,
-    WrongDirectory = 7,
-    ChunkTag = 8,
-    ChunkFrame = 9,
-    BadEntry = 10,
-    QuickWords = 11,
-    NameOrder = 12,
-    BrokenChain = 13,
-    BrokenTree = 14,
-    BadName = 15,
-    ShortTrail = 16,
-    BadRecord = 17,
-    BadInput = 18,
-    TooManyChunks = 19,
-    ShortOutput = 20,
-    BadBatch = 22,
-    LongInput = 29,
+    ShortFile,
+    FileTags,
+    WrongVersion,
+    WrongSections,
+    WrongLength,
+    DirectoryTags,
+    WrongDirectory,
+    ChunkTag,
+    ChunkFrame,
+    BadEntry,
+    QuickWords,
+    NameOrder,
+    BrokenChain,
+    BrokenTree,
+    BadName,
+    ShortTrail,
+    BadRecord,
+    BadInput,
+    TooManyChunks,
+    ShortOutput,
+    BadBatch,
+    LongInput,
+    Other(u8),
 }
 
 // A rule that is broken, and the chunk that breaks it where it is one of a chunk.
@@ -50,7 +51,63 @@ impl Rule {
     pub fn number(self) -> u8
         ensures { result ≡ number_of self }
     {
-        self as u8
+        match self {
+            Rule::ShortFile => 1,
+            Rule::FileTags => 2,
+            Rule::WrongVersion => 3,
+            Rule::WrongSections => 4,
+            Rule::WrongLength => 5,
+            Rule::DirectoryTags => 6,
+            Rule::WrongDirectory => 7,
+            Rule::ChunkTag => 8,
+            Rule::ChunkFrame => 9,
+            Rule::BadEntry => 10,
+            Rule::QuickWords => 11,
+            Rule::NameOrder => 12,
+            Rule::BrokenChain => 13,
+            Rule::BrokenTree => 14,
+            Rule::BadName => 15,
+            Rule::ShortTrail => 16,
+            Rule::BadRecord => 17,
+            Rule::BadInput => 18,
+            Rule::TooManyChunks => 19,
+            Rule::ShortOutput => 20,
+            Rule::BadBatch => 22,
+            Rule::LongInput => 29,
+            Rule::Other(number) => number,
+        }
+    }
+}
+
+impl From<u8> for Rule {
+    ghost from_gives = { λ number rule. (rule ≡ rule_of number) × (number_of rule ≡ number) };
+
+    fn from(number: u8) -> Rule {
+        match number {
+            1 => Rule::ShortFile,
+            2 => Rule::FileTags,
+            3 => Rule::WrongVersion,
+            4 => Rule::WrongSections,
+            5 => Rule::WrongLength,
+            6 => Rule::DirectoryTags,
+            7 => Rule::WrongDirectory,
+            8 => Rule::ChunkTag,
+            9 => Rule::ChunkFrame,
+            10 => Rule::BadEntry,
+            11 => Rule::QuickWords,
+            12 => Rule::NameOrder,
+            13 => Rule::BrokenChain,
+            14 => Rule::BrokenTree,
+            15 => Rule::BadName,
+            16 => Rule::ShortTrail,
+            17 => Rule::BadRecord,
+            18 => Rule::BadInput,
+            19 => Rule::TooManyChunks,
+            20 => Rule::ShortOutput,
+            22 => Rule::BadBatch,
+            29 => Rule::LongInput,
+            _ => Rule::Other(number),
+        }
     }
 }
 

@@ -37,7 +37,7 @@ module _ (s₁ : List ℕ) (b₁ : Record) (s₂ : List ℕ) (b₂ : Record) whe
   turn_lighter at =
       turn_cases s₁ b₁ s₂ b₂ at (LighterTurn at)
       (record {
-        refused = λ k. tt;
+        refused = λ k e. tt;
         ended = tt;
         first = λ x v₁ v₂ h k. let a = peek_falls s₁ b₁ at.first v₁ x h in let b = kept_light s₂ b₂ at.second v₂ k in omega arith;
         second = λ v₁ y v₂ h k. let a = kept_light s₁ b₁ at.first v₁ h in let b = peek_falls s₂ b₂ at.second v₂ y k in omega arith;

@@ -1,11 +1,11 @@
--- A refusal that one name gives is 17 of no chunk, beside the number of one of the two books: `turn_fair`.
-use Rattle.fields.proofs.Base.{◌≡◌, refl, ◌⊎◌, inl, inr, Bool, true, false, cond, List, ℕ, Result, Ok, Err}
+-- A refusal that one name gives is 17 of no chunk, beside one of the two books: `turn_fair`.
+use Rattle.fields.proofs.Base.{◌≡◌, refl, ◌⊎◌, Bool, true, false, cond, List, ℕ, Result, Ok, Err}
 use Rattle.refusals.specs.Refusals.{refusal_of}
 use Rattle.entries.specs.declared.Place.{Place}
 use Rattle.header.specs.declared.Record.{Record}
 use Rattle.walk.specs.Walk.{after_of}
 use Rattle.walk.specs.declared.Walk.{Walk}
-use Rattle.turn.specs.Turn.{one_same, one_changed, both_at, shown_at, same_at, in_both, turned, which_number}
+use Rattle.turn.specs.Turn.{one_same, one_changed, both_at, shown_at, same_at, in_both, turned}
 use Rattle.turn.specs.declared.Cursor.{Cursor}
 use Rattle.turn.specs.declared.Step.{Step}
 use Rattle.turn.specs.declared.Step.TheVariants.{First, Second, Changed, End}
@@ -16,17 +16,13 @@ use Rattle.refusals.specs.declared.Rule.TheVariants.{BadRecord}
 use Rattle.refusals.specs.declared.Refusal.{Refusal}
 use Rattle.turn.specs.declared.Which.{Which}
 
-one_of : (k : Which) → (which_number k ≡ 1) ⊎ (which_number k ≡ 2)
-one_of Which.First = inl refl
-one_of Which.Second = inr refl
-
 -- a refusal is that of one of the two books
 abbrev pub Fair : Result Step (Which × Refusal) → Type 0
 Fair (Ok (First x a)) = Unit {0}
 Fair (Ok (Second y a)) = Unit {0}
 Fair (Ok (Changed x y a)) = Unit {0}
 Fair (Ok (End t)) = Unit {0}
-Fair (Err (k, r)) = ((which_number k ≡ 1) ⊎ (which_number k ≡ 2)) × (r ≡ refusal_of BadRecord)
+Fair (Err (k, r)) = ((k ≡ Which.First) ⊎ (k ≡ Which.Second)) × (r ≡ refusal_of BadRecord)
 
 abbrev pub FairTurn : Turn → Type 0
 FairTurn (Tell x) = Fair x
@@ -46,7 +42,7 @@ module _ (s₁ : List ℕ) (b₁ : Record) (s₂ : List ℕ) (b₂ : Record) whe
   turn_fair at =
       turn_cases s₁ b₁ s₂ b₂ at FairTurn
       (record {
-        refused = λ k. (one_of k, refl);
+        refused = λ k e. (e, refl);
         ended = tt;
         first = λ x v₁ v₂ h k. tt;
         second = λ v₁ y v₂ h k. tt;

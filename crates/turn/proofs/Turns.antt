@@ -22,7 +22,7 @@ Kept s book w v = (w ≡ v) ⊎ ((e : Place) × (coming_at s book w ≡ Ok (Some
 
 module _ (s₁ : List ℕ) (b₁ : Record) (s₂ : List ℕ) (b₂ : Record) (at : Cursor) (P : Turn → Type 0) where
   pub record Cases : Type 0 where
-    pub refused : (k : Which) → P (Tell (refused_by k))
+    pub refused : (k : Which) → (k ≡ Which.First) ⊎ (k ≡ Which.Second) → P (Tell (refused_by k))
     pub ended : P (Tell (Ok (Step.End at.totals)))
     pub first : (x : Place) (v₁ v₂ : Walk) → coming_at s₁ b₁ at.first ≡ Ok (Some (x, v₁)) → Kept s₂ b₂ at.second v₂ → P (turn_only_first s₁ b₁ x v₁ v₂ at.totals)
     pub second : (v₁ : Walk) (y : Place) (v₂ : Walk) → Kept s₁ b₁ at.first v₁ → coming_at s₂ b₂ at.second ≡ Ok (Some (y, v₂)) → P (turn_only_second s₂ b₂ v₁ y v₂ at.totals)
@@ -46,7 +46,7 @@ module _ (s₁ : List ℕ) (b₁ : Record) (s₂ : List ℕ) (b₂ : Record) (at
       where
         go : (c : Result (Option (Place × Walk)) Refusal) → coming_at s₂ b₂ at.second ≡ c
             → P (on_coming c (Tell (refused_by Which.Second)) (turn_only_first s₁ b₁ x v₁ at.second at.totals) (λ y v₂. paired s₁ b₁ s₂ b₂ x v₁ y v₂ at.totals))
-        go (Err n) k = cases.refused Which.Second
+        go (Err n) k = cases.refused Which.Second (inr refl)
         go (Ok None) k = cases.first x v₁ at.second h (inl refl)
         go (Ok (Some (y, v₂))) k = pair_case x v₁ y v₂ h k
 
@@ -56,7 +56,7 @@ module _ (s₁ : List ℕ) (b₁ : Record) (s₂ : List ℕ) (b₂ : Record) (at
       where
         go : (c : Result (Option (Place × Walk)) Refusal) → coming_at s₂ b₂ at.second ≡ c
             → P (on_coming c (Tell (refused_by Which.Second)) (Tell (Ok (Step.End at.totals))) (λ y v₂. turn_only_second s₂ b₂ at.first y v₂ at.totals))
-        go (Err n) k = cases.refused Which.Second
+        go (Err n) k = cases.refused Which.Second (inr refl)
         go (Ok None) k = cases.ended
         go (Ok (Some (y, v₂))) k = cases.second at.first y v₂ (inl refl) k
 
@@ -66,6 +66,6 @@ module _ (s₁ : List ℕ) (b₁ : Record) (s₂ : List ℕ) (b₂ : Record) (at
       where
         go : (c : Result (Option (Place × Walk)) Refusal) → coming_at s₁ b₁ at.first ≡ c
             → P (on_coming c (Tell (refused_by Which.First)) (behind_first s₂ b₂ at.first at.second at.totals) (λ x v₁. beside_first s₁ b₁ s₂ b₂ x v₁ at.second at.totals))
-        go (Err n) k = cases.refused Which.First
+        go (Err n) k = cases.refused Which.First (inl refl)
         go (Ok None) k = behind_case
         go (Ok (Some (x, v₁))) k = beside_case x v₁ k

@@ -43,6 +43,7 @@ one_changed t = record { first = t.first; second = t.second; same = t.same; chan
 abbrev pub which_number : Which → ℕ
 which_number Which.First = 1
 which_number Which.Second = 2
+which_number (Which.Other n) = n
 
 -- 17, beside the book that met it
 abbrev pub refused_by : Which → Result Step (Which × Refusal)

@@ -44,11 +44,12 @@ pub enum Step {
     End(Totals),
 }
 
-// One of the two books.
+// One of the two books. `Other` is any further number, in an answer that a caller makes; no step gives it.
 #[derive(Clone, Copy)]
 pub enum Which {
-    First = 1,
-    Second = 2,
+    First,
+    Second,
+    Other(u8),
 }
 
 // A refusal, beside the book that met it.
@@ -66,7 +67,11 @@ impl Which {
     pub fn number(self) -> u8
         ensures { result ≡ which_number self }
     {
-        self as u8
+        match self {
+            Which::First => 1,
+            Which::Second => 2,
+            Which::Other(number) => number,
+        }
     }
 }
 
