@@ -44,12 +44,14 @@ pub fn put_words(out: &mut [u8], at: usize, words: &[u32]) -> bool
     true
 }
 
-// Copies n bytes of the input from `start` on.
+// Copies n bytes of the input from `start` on. Not `copy_from_slice`: with it the library for C would need `memmove` from outside.
 fn put_run(out: &mut [u8], at: usize, input: &[u8], start: usize, n: usize)
     requires { (at + n ≤ length out.old) × (start + n ≤ length input.now) }
     ensures { out.new ≡ sets out.old at (part input.now start n) }
 {
-    out[at..at + n].copy_from_slice(&input[start..start + n]);
+    for i in 0..n {
+        out[at + i] = input[start + i];
+    }
 }
 
 // Writes a name of n bytes that stands in the input at `start`, with its length, and returns the place behind it.
