@@ -56,8 +56,10 @@ fn enter(w: Walk, file: &[u8], book: Record) -> Result<Option<Walk>, Refusal>
     if w.more < 1 {
         return Err(no_reading());
     }
-    let Ok(Chunk::Listing(_, next)) = book::checked_chunk(file, book, w.next) else {
-        return Err(no_reading());
+    let next = match book::checked_chunk(file, book, w.next) {
+        Ok(Chunk::Listing(_, next)) => next as u64,
+        Ok(Chunk::Index) => return Err(no_reading()),
+        Err(_) => return Err(no_reading()),
     };
     let at = chunk_fields::first_place(Kind::Listing) as u64;
     let left = chunk_fields::entry_count(book::chunk_bytes(file, book, w.next)) as u64;
@@ -65,7 +67,7 @@ fn enter(w: Walk, file: &[u8], book: Record) -> Result<Option<Walk>, Refusal>
         chunk: w.next,
         at,
         left,
-        next: next as u64,
+        next,
         more: w.more - 1,
     }))
 }

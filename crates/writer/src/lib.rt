@@ -185,9 +185,7 @@ fn plan(input: &[u8], content: u64, n: usize, starts: &mut [usize]) -> Result<Si
         if depth == 5 {
             return Err(Rule::TooManyChunks);
         }
-        let Some(next) = plan_level(input, content, n, starts, base, end) else {
-            return Err(Rule::TooManyChunks);
-        };
+        let next = plan_level(input, content, n, starts, base, end).ok_or(Rule::TooManyChunks)?;
         base = end;
         end = next;
         depth += 1;

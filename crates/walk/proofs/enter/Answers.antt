@@ -1,14 +1,12 @@
 use Rattle.fields.proofs.Base.{◌≡◌, sym, ap, ap₂, ◌∙◌, false, ℕ, ◌-◌, arith, Some, Ok, Err}
 use Rattle.entries.specs.declared.Kind.{Kind}
 use Rattle.chunk_fields.specs.ChunkFields.{first_place, entry_count}
-use Rattle.chunk.specs.declared.Chunk.TheVariants.{Listing, Index}
-use Rattle.tree.specs.Shape.{listing_chunk}
-use Rattle.book.specs.Book.{chunk_bytes, checked_chunk, directory_of, shape_of}
+use Rattle.chunk.specs.declared.Chunk.TheVariants.{Listing}
+use Rattle.book.specs.Book.{chunk_bytes, checked_chunk}
 use Rattle.book.proofs.Checked.{checked_listing, checked_index, checked_refused}
 use Rattle.book.proofs.Read.{entries_length}
 use Rattle.walk.specs.Walk.{is_over}
 use Rattle.walk.proofs.Entering.{enter_inside, enter_over, enter_none, enter_barred, enter_chunk}
-use Rattle.walk.proofs.enter.Goals.{in_default-via-in-Ok+in_default, in_default-via-in_default}
 use Rattle.walk.proofs.enter.Goals as goal
 
 pub returns-then-w-gt0 : goal.returns-then-w-gt0
@@ -25,24 +23,27 @@ returns-then-w-lt1 c =
     let a = c.args in
     ap Err c.no_reading.ensures ∙ sym (enter_none a.file.now a.book a.w c.if-w-gt0.false on (omega arith))
 
-pub returns-in_default : goal.returns-in_default
-returns-in_default c =
+pub returns-in-Ok-Index : goal.returns-in-Ok-Index
+returns-in-Ok-Index c =
     let a = c.args in
-    let barred : listing_chunk (directory_of a.file.now a.book) (shape_of a.book) a.w.next ≡ false =
-    elim c.in_default.branch [
-      | in_default-via-in-Ok+in_default w ↦ (let h : w.in_default.field-0 ≡ Index = cc in (checked_index a.file.now a.book a.w.next (sym c.checked_chunk.ensures ∙ w.in_default.is ∙ ap Ok h)).1)
-      | in_default-via-in_default w ↦ (checked_refused a.file.now a.book a.w.next _ (sym c.checked_chunk.ensures ∙ w.in_default.is)).1
-    ] in
-    ap Err c.no_reading-in_default.ensures ∙ sym (enter_barred a.file.now a.book a.w c.if-w-gt0.false (sym c.is_over.ensures ∙ c.if-is_over.false) barred)
+    let barred = enter_barred a.file.now a.book a.w c.if-w-gt0.false (sym c.is_over.ensures ∙ c.if-is_over.false)
+    (checked_index a.file.now a.book a.w.next (sym c.checked_chunk.ensures ∙ c.in-Ok-Index.is ∙ ap Ok c.in-Ok-Index.field-0-is)).1 in
+    cc
+
+pub returns-in-Err : goal.returns-in-Err
+returns-in-Err c =
+    let a = c.args in
+    let barred = enter_barred a.file.now a.book a.w c.if-w-gt0.false (sym c.is_over.ensures ∙ c.if-is_over.false)
+    (checked_refused a.file.now a.book a.w.next _ (sym c.checked_chunk.ensures ∙ c.in-Err.is)).1 in
+    cc
 
 pub returns : goal.returns
 returns c =
     let on : let a = c.args in is_over a.book a.w ≡ false =
     sym c.is_over.ensures ∙ c.if-is_over.false in
-    let listed : c.in-Ok-Listing.field-0 ≡ Listing c.in-Ok-Listing.field-0-0 c.in-Ok-Listing.next = cc in
     let met_is : let a = c.args in
     checked_chunk a.file.now a.book a.w.next ≡ Ok (Listing c.in-Ok-Listing.field-0-0 c.in-Ok-Listing.next) =
-    sym c.checked_chunk.ensures ∙ c.in-Ok-Listing.is ∙ ap Ok listed in
+    sym c.checked_chunk.ensures ∙ c.in-Ok-Listing.is ∙ ap Ok c.in-Ok-Listing.field-0-is in
     let count_is : let a = c.args in
     c.entry_count-left.result ≡ entry_count (chunk_bytes a.file.now a.book a.w.next) =
     rw (← c.chunk_bytes.ensures) c.entry_count-left.ensures in

@@ -1,4 +1,6 @@
-use Rattle.fields.proofs.Base.{arith, refl, inl}
+use Rattle.fields.proofs.Base.{◌≡◌, arith, refl, inl, None, Some}
+use Rattle.std.proofs.lemmas.Result.{IfErr-at_err, err_from_is_err_and}
+use Rattle.refusals.specs.declared.Rule.TheVariants.{TooManyChunks}
 use Rattle.pack.proofs.Levels.{chunks_given}
 use Rattle.writer.specs.Plan.{ListingLevel}
 use Rattle.writer.proofs.Shaping.{first_over, shaping_start, shaping_end, shaping_deep, shaping_over, shaping_turn}
@@ -26,13 +28,19 @@ loop-end-init c =
 pub returns-then-depth-eq5 : goal.returns-then-depth-eq5
 returns-then-depth-eq5 c = let i = c.loop-end.invariant in inl (refl, i.0, shaping_deep _ _ _ _ _ _ _ _ _ i.1 c.loop-end-test.true c.if-depth-eq5.true)
 
-pub returns-in_default-plan_level : goal.returns-in_default-plan_level
-returns-in_default-plan_level c = let i = c.loop-end.invariant in
-    inl (refl, i.0, shaping_over _ _ _ _ _ _ _ _ _ i.1 c.loop-end-test.true (rw c.in_default-plan_level.is at c.plan_level.ensures))
+pub returns-in_err-next : goal.returns-in_err-next
+returns-in_err-next c =
+    let i = c.loop-end.invariant in
+    let p = err_from_is_err_and c.from_residual.result c.from_residual.ensures.1 in
+    let e : c.plan_level.result ≡ None = grind arith in
+    let r : c.in_err-next.field-0.0 ≡ TooManyChunks = IfErr-at_err (λ x. x ≡ TooManyChunks) c.in_err-next.was (rw (c.ok_or.ensures.value, e) refl) in
+    rw (p.1, p.2) (inl (r, i.0, shaping_over _ _ _ _ _ _ _ _ _ i.1 c.loop-end-test.true (rw e at c.plan_level.ensures)))
 
 pub loop-end-preserved : goal.loop-end-preserved
-loop-end-preserved c = let i = c.loop-end.invariant in
-    (i.0, shaping_turn _ _ _ _ _ _ _ _ _ i.1 c.loop-end-test.true _ _ c.plan_level.auto.starts (rw c.in-Some-plan_level.is at c.plan_level.ensures) c.if-depth-eq5.false)
+loop-end-preserved c =
+    let i = c.loop-end.invariant in
+    let e : c.plan_level.result ≡ Some c.in_ok-next.next = grind arith in
+    (i.0, shaping_turn _ _ _ _ _ _ _ _ _ i.1 c.loop-end-test.true _ _ c.plan_level.auto.starts (rw e at c.plan_level.ensures) c.if-depth-eq5.false)
 
 pub returns : goal.returns
 returns c = let i = c.loop-end.invariant in (i.0, shaping_end _ _ _ _ _ _ _ _ _ i.1 c.loop-end-test.false)
