@@ -54,7 +54,7 @@ fn read_directory(file: &[u8], f: FileFields) -> Result<Record, Rule>
 }
 
 // The checks from 5 on.
-#[tactic(auto, unfolding(crate::specs::Header::section_then))]
+#[tactic(auto, unfolding(crate::specs::Header::section_then, file_header::specs::FileHeader::section_zero_of))]
 fn read_section(file: &[u8], f: FileFields) -> Result<Record, Rule>
     ensures { result ≡ section_then file.now f }
 {

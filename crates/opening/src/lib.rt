@@ -205,7 +205,11 @@ fn named_child(file: &[u8], book: Record, c: u64, at: usize) -> Option<(u64, usi
     let x = entries::item_at(bytes, book::limits(file, book), Kind::Index, at)?;
     let start = x.start;
     let len = x.len;
-    is_named(file, book, x.child, &bytes[start..start + len]).then_some((x.child, x.next))
+    if is_named(file, book, x.child, &bytes[start..start + len]) {
+        Some((x.child, x.next))
+    } else {
+        None
+    }
 }
 
 // The walk over the tree under chunk c of a level, from left to right: the listing chunk `expected` must come next, and `left` index chunks are left.
@@ -254,22 +258,20 @@ fn tree_right(file: &[u8], book: Record, indexes: u64) -> bool
     requires { GoodBook file.now book }
     ensures { result ≡ arrived (walk_tree (directory_of file.now book) (shape_of book) book.depth (top (shape_of book)) book.first indexes) }
 {
-    match walk_tree(
+    let Some((expected, left)) = walk_tree(
         file,
         book,
         book.depth,
         book::top_chunk(book),
         book.first,
         indexes,
-    ) {
-        None => false,
-        Some((expected, left)) => {
-            if expected == refusals::no_chunk() as u64 {
-                left == 0
-            } else {
-                false
-            }
-        }
+    ) else {
+        return false;
+    };
+    if expected == refusals::no_chunk() as u64 {
+        left == 0
+    } else {
+        false
     }
 }
 

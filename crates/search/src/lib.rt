@@ -23,8 +23,14 @@ pub fn find_in(file: &[u8], book: Record, name: &[u8], c: u64) -> Searched<Optio
 {
     let bytes = book::chunk_bytes(file, book, c);
     let found = seek::find(bytes, book::limits(file, book), name);
+    let Some(e) = found.answer else {
+        return Searched {
+            answer: None,
+            count: found.count,
+        };
+    };
     Searched {
-        answer: found.answer.map(|e| report::report_of(file, book, c, e)),
+        answer: Some(report::report_of(file, book, c, e)),
         count: found.count,
     }
 }

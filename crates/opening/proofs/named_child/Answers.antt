@@ -1,4 +1,4 @@
-use Rattle.fields.proofs.Base.{◌≡◌, List, ℕ, sym, ◌∙◌, add-sub_cancel_left, arith, ◌+◌, ◌≤◌, ◌<◌, length, Option, Some, None, Bool, true, false, cond, refl}
+use Rattle.fields.proofs.Base.{◌≡◌, List, ℕ, sym, ◌∙◌, add-sub_cancel_left, arith, ◌+◌, ◌≤◌, ◌<◌, length, Option, Some}
 use Rattle.fields.specs.Same.{same}
 use Rattle.entries.specs.Entry.{item_at, name_of}
 use Rattle.entries.specs.declared.Limits.{Limits}
@@ -8,7 +8,6 @@ use Rattle.entries.specs.declared.Kind.TheVariants.{Index}
 use Rattle.header.specs.declared.Record.{Record}
 use Rattle.tree.specs.Shape.{first_name}
 use Rattle.book.specs.Book.{limits_of, chunk_bytes, directory_of}
-use Rattle.std.specs.Bool.{then_some}
 use Rattle.opening.specs.Passes.{named_child}
 use Rattle.opening.proofs.named_child.Goals as goal
 
@@ -26,11 +25,6 @@ module _ (s : List ℕ) (r : Record) (c at : ℕ) where
     child_below : x.child < r.count
     unfolding limits_of item_at
     child_below = (index_apart r.count (chunk_bytes s r c) at x e).below
-
--- the two ways to write a value that is there on a test
-some_on : (t : Bool) (x : ℕ × ℕ) → then_some t x ≡ cond t (Some x) None
-some_on true x = refl
-some_on false x = refl
 
 pub returns-in_err-x : goal.returns-in_err-x
 unfolding named_child
@@ -65,11 +59,20 @@ is_named-requires c =
     let e = met a.file.now a.book a.c a.at _ _ _ _ c.limits.ensures c.chunk_bytes-bytes.ensures c.item_at.ensures c.in_ok-x.was in
     (c.requires, child_below a.file.now a.book a.c a.at c.in_ok-x.x e)
 
-pub returns : goal.returns
+pub returns-then-is_named : goal.returns-then-is_named
 unfolding named_child
-returns c =
+returns-then-is_named c =
     let a = c.args in
     let e = met a.file.now a.book a.c a.at _ _ _ _ c.limits.ensures c.chunk_bytes-bytes.ensures c.item_at.ensures c.in_ok-x.was in
     let named_is : c.is_named.result ≡ same (name_of (chunk_bytes a.file.now a.book a.c) c.in_ok-x.x) (first_name (directory_of a.file.now a.book c.in_ok-x.x.child))
     = rw (← c.chunk_bytes-bytes.ensures) (simp add-sub_cancel_left at c.is_named.ensures) in
-    rw (e, ← named_is) (c.then_some.ensures ∙ some_on _ _)
+    rw (e, sym named_is ∙ c.if-is_named.true)
+
+pub returns-else-is_named : goal.returns-else-is_named
+unfolding named_child
+returns-else-is_named c =
+    let a = c.args in
+    let e = met a.file.now a.book a.c a.at _ _ _ _ c.limits.ensures c.chunk_bytes-bytes.ensures c.item_at.ensures c.in_ok-x.was in
+    let named_is : c.is_named.result ≡ same (name_of (chunk_bytes a.file.now a.book a.c) c.in_ok-x.x) (first_name (directory_of a.file.now a.book c.in_ok-x.x.child))
+    = rw (← c.chunk_bytes-bytes.ensures) (simp add-sub_cancel_left at c.is_named.ensures) in
+    rw (e, sym named_is ∙ c.if-is_named.false)

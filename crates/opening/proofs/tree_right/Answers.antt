@@ -13,10 +13,10 @@ walked : (s : List ℕ) (r : Record) (k n : ℕ) (x y : Option (ℕ × ℕ)) →
     → y ≡ progress_of (walk_tree (directory_of s r) (shape_of r) r.depth (top (shape_of r)) r.first k)
 walked s r k n x y p q e = rw (← p) (sym e ∙ q)
 
-pub returns-in-None : goal.returns-in-None
-returns-in-None c =
+pub returns-in_default : goal.returns-in_default
+returns-in_default c =
     let a = c.args in
-    rw (stopped_is _ (walked a.file.now a.book a.indexes _ _ _ c.top_chunk.ensures c.walk_tree.ensures c.in-None.is))
+    rw (stopped_is _ (walked a.file.now a.book a.indexes _ _ _ c.top_chunk.ensures c.walk_tree.ensures c.in_default.is))
 
 pub returns-then-expected-no_chunk : goal.returns-then-expected-no_chunk
 returns-then-expected-no_chunk c =
