@@ -1,13 +1,15 @@
 -- What a chunk number leads to tells of the chunk: whether it is below the count and of a kind, and its links.
+use Rattle.refusals.specs.Refusals.{in_table}
 use Rattle.fields.proofs.Base.{◌≡◌, refl, sym, ap, ◌∙◌, Bool, true, false, cond, ◌&&◌, List, ℕ, ◌<◌, arith, ltb, lt-ltb, Result, Ok, Err}
 use Rattle.entries.specs.declared.Kind.{Kind}
 use Rattle.chunk.specs.Chunk.{Parsed, bad, listing, index, is_kind}
 use Rattle.chunk.specs.Answer.{chunk_of}
+use Rattle.chunk.proofs.Refusals.{check_refused}
 use Rattle.chunk.specs.declared.Chunk.{Chunk}
 use Rattle.chunk.specs.declared.Chunk.TheVariants.{Listing, Index}
 use Rattle.header.specs.declared.Record.{Record}
 use Rattle.tree.specs.Shape.{is_listing, previous_of, next_of, listing_chunk, index_chunk}
-use Rattle.book.specs.Book.{directory_of, shape_of, checked_chunk}
+use Rattle.book.specs.Book.{limits_of, chunk_bytes, directory_of, shape_of, checked_chunk}
 use Rattle.refusals.specs.declared.Rule.TheVariants.{BadRecord}
 use Rattle.refusals.specs.declared.Rule.{Rule}
 
@@ -83,6 +85,15 @@ module _ (s : List ℕ) (book : Record) (c : ℕ) where
   pub checked_refused : (n : Rule) → checked_chunk s book c ≡ Err n
       → (index_chunk (directory_of s book) (shape_of book) c ≡ false) × (listing_chunk (directory_of s book) (shape_of book) c ≡ false)
   checked_refused n e = (index_is ∙ ap (is_of Kind.Index) e, listing_is ∙ ap (is_of Kind.Listing) e)
+
+  -- and its rule is one of the table
+  pub checked_table : (n : Rule) → checked_chunk s book c ≡ Err n → in_table n ≡ true
+  unfolding checked_chunk directory_of
+  checked_table n = go (ltb c book.count)
+    where
+      go : (t : Bool) → met_of t (directory_of s book c) ≡ Err n → in_table n ≡ true
+      go true e = (check_refused (limits_of s book) (chunk_bytes s book c) n e).2
+      go false e = let z : BadRecord ≡ n = cc in ap in_table (sym z)
 
   -- the same of an answer x where only one kind was looked for
   module _ (x : Result Chunk Rule) (e : x ≡ checked_chunk s book c) where

@@ -3,3 +3,4 @@ pub mod Quick
 pub mod Accepted
 pub mod Frame
 pub mod Examples
+pub mod Refusals

@@ -3,7 +3,7 @@
 use Rattle.fields.proofs.Base.{◌≡◌, refl, subst, List, Bool, true, false, cond, ℕ, ◌≤◌, arith, Result, Ok, Err}
 use Rattle.file_header.specs.FileHeader.{long_enough, file_tagged, version_right, sections_right, length_right, file_fields_of, requiring, file_header_of, section_zero_of}
 use Rattle.file_header.specs.declared.FileFields.{FileFields}
-use Rattle.refusals.specs.Refusals.{number_of}
+use Rattle.refusals.specs.Refusals.{number_of, in_table}
 use Rattle.refusals.specs.declared.Rule.TheVariants.{WrongLength, ShortFile, FileTags, WrongVersion, WrongSections}
 use Rattle.refusals.specs.declared.Rule.{Rule}
 use Rattle.std.specs.Prelude.{⊤}
@@ -36,19 +36,19 @@ file_rules h size f e =
 
 -- one of the rules of refusals 1 to 4
 abbrev OfFile : Rule → Type 0
-OfFile n = (1 ≤ number_of n) × (number_of n ≤ 4)
+OfFile n = (1 ≤ number_of n) × (number_of n ≤ 4) × (in_table n ≡ true)
 
 numbered : (t : Bool) (k : Rule) (x : Result FileFields Rule) (n : Rule) → OfFile k → (x ≡ Err n → OfFile n) → requiring t k x ≡ Err n → OfFile n
 numbered true k x n here f e = f e
 numbered false k x n here f e = let z : k ≡ n = cc in subst OfFile z here
 
-pub file_refused : (h : List ℕ) (size : ℕ) (n : Rule) → file_header_of h size ≡ Err n → (1 ≤ number_of n) × (number_of n ≤ 4)
+pub file_refused : (h : List ℕ) (size : ℕ) (n : Rule) → file_header_of h size ≡ Err n → (1 ≤ number_of n) × (number_of n ≤ 4) × (in_table n ≡ true)
 unfolding file_header_of
 file_refused h size n =
-    numbered (long_enough size) ShortFile _ n (omega arith, omega arith)
-    (numbered (file_tagged h) FileTags _ n (omega arith, omega arith)
-    (numbered (version_right h) WrongVersion _ n (omega arith, omega arith)
-    (numbered (sections_right h size) WrongSections _ n (omega arith, omega arith)
+    numbered (long_enough size) ShortFile _ n (omega arith, omega arith, refl)
+    (numbered (file_tagged h) FileTags _ n (omega arith, omega arith, refl)
+    (numbered (version_right h) WrongVersion _ n (omega arith, omega arith, refl)
+    (numbered (sections_right h size) WrongSections _ n (omega arith, omega arith, refl)
     (λ g. absurd (let z : ◌≡◌ {A = ℕ} 0 1 = cc in omega arith)))))
 
 -- ---- section 0

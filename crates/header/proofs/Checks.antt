@@ -1,6 +1,6 @@
 -- The headers of a file put together: where each is good, the whole is (`header_good`), and the other way round (`header_both`); a refusal has
 -- a number of the table (`header_refused`).
-use Rattle.fields.proofs.Base.{◌≡◌, ◌∙◌, ap, refl, List, ℕ, ◌≤◌, arith, length, Result, Ok, Err}
+use Rattle.fields.proofs.Base.{◌≡◌, ◌∙◌, ap, refl, true, List, ℕ, ◌≤◌, arith, length, Result, Ok, Err}
 use Rattle.file_header.specs.FileHeader.{file_header_of, section_zero_of}
 use Rattle.file_header.specs.declared.FileFields.{FileFields}
 use Rattle.file_header.proofs.Checks.{file_refused, section_refused}
@@ -9,7 +9,7 @@ use Rattle.directory_header.specs.declared.DirectoryFields.{DirectoryFields}
 use Rattle.directory_header.proofs.Checks.{directory_refused}
 use Rattle.header.specs.Header.{record_from, header_in, section_in, directory_in, after_directory, directory_then, after_section, section_then, after_file, header_of}
 use Rattle.header.specs.declared.Record.{Record}
-use Rattle.refusals.specs.Refusals.{number_of}
+use Rattle.refusals.specs.Refusals.{number_of, in_table}
 use Rattle.refusals.specs.declared.Rule.{Rule}
 use Rattle.std.specs.Prelude.{⊤}
 
@@ -58,26 +58,26 @@ module _ (s : List ℕ) where
 
   -- ---- a refused one
 
-  directory_number : (n : Rule) (f : FileFields) → directory_then s f ≡ Err n → (6 ≤ number_of n) × (number_of n ≤ 7)
+  directory_number : (n : Rule) (f : FileFields) → directory_then s f ≡ Err n → (6 ≤ number_of n) × (number_of n ≤ 7) × (in_table n ≡ true)
   unfolding directory_then
   directory_number n f = go (directory_header_of (directory_in s f) f.length) refl
     where
-      go : (x : Result DirectoryFields Rule) → directory_header_of (directory_in s f) f.length ≡ x → after_directory f x ≡ Err n → (6 ≤ number_of n) × (number_of n ≤ 7)
+      go : (x : Result DirectoryFields Rule) → directory_header_of (directory_in s f) f.length ≡ x → after_directory f x ≡ Err n → (6 ≤ number_of n) × (number_of n ≤ 7) × (in_table n ≡ true)
       go (Ok d) q e = absurd (let z : ◌≡◌ {A = ℕ} 0 1 = cc in omega arith)
-      go (Err k) q e = let t = directory_refused _ _ n (q ∙ ap Err cc) in (omega arith, omega arith)
+      go (Err k) q e = let t = directory_refused _ _ n (q ∙ ap Err cc) in (omega arith, omega arith, t.2)
 
-  section_number : (n : Rule) (f : FileFields) → section_then s f ≡ Err n → (5 ≤ number_of n) × (number_of n ≤ 7)
+  section_number : (n : Rule) (f : FileFields) → section_then s f ≡ Err n → (5 ≤ number_of n) × (number_of n ≤ 7) × (in_table n ≡ true)
   unfolding section_then
   section_number n f = go (section_zero_of (section_in s f) (length s)) refl
     where
-      go : (x : Result ⊤ Rule) → section_zero_of (section_in s f) (length s) ≡ x → after_section s f x ≡ Err n → (5 ≤ number_of n) × (number_of n ≤ 7)
-      go (Ok tt) q e = let t = directory_number n f e in (omega arith, omega arith)
-      go (Err k) q e = let t = ap number_of (section_refused _ _ n (q ∙ ap Err cc)) in (omega arith, omega arith)
+      go : (x : Result ⊤ Rule) → section_zero_of (section_in s f) (length s) ≡ x → after_section s f x ≡ Err n → (5 ≤ number_of n) × (number_of n ≤ 7) × (in_table n ≡ true)
+      go (Ok tt) q e = let t = directory_number n f e in (omega arith, omega arith, t.2)
+      go (Err k) q e = let w = section_refused _ _ n (q ∙ ap Err cc) in let t = ap number_of w in (omega arith, omega arith, ap in_table w)
 
-  pub header_refused : (n : Rule) → header_of s ≡ Err n → (1 ≤ number_of n) × (number_of n ≤ 7)
+  pub header_refused : (n : Rule) → header_of s ≡ Err n → (1 ≤ number_of n) × (number_of n ≤ 7) × (in_table n ≡ true)
   unfolding header_of
   header_refused n = go (file_header_of (header_in s) (length s)) refl
     where
-      go : (x : Result FileFields Rule) → file_header_of (header_in s) (length s) ≡ x → after_file s x ≡ Err n → (1 ≤ number_of n) × (number_of n ≤ 7)
-      go (Ok f) q e = let t = section_number n f e in (omega arith, omega arith)
-      go (Err k) q e = let t = file_refused _ _ n (q ∙ ap Err cc) in (omega arith, omega arith)
+      go : (x : Result FileFields Rule) → file_header_of (header_in s) (length s) ≡ x → after_file s x ≡ Err n → (1 ≤ number_of n) × (number_of n ≤ 7) × (in_table n ≡ true)
+      go (Ok f) q e = let t = section_number n f e in (omega arith, omega arith, t.2)
+      go (Err k) q e = let t = file_refused _ _ n (q ∙ ap Err cc) in (omega arith, omega arith, t.2)

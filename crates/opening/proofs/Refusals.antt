@@ -1,7 +1,7 @@
--- Each refusal of opening bears a number of the table, and the place that belongs to it: `refusal_told`.
+-- Each refusal of opening bears a number of the table, and the place that belongs to it: `refusal_told`, `told_table`.
 use Rattle.fields.proofs.Base.{◌≡◌, refl, sym, ap, subst, ◌∙◌, Bool, true, false, cond, List, [], ℕ, zero, suc, ◌+◌, ◌-◌, ◌≤◌, ◌<◌, arith, ℕ_discrete, length, eqb, Result, Ok, Err, Some, None}
 use Rattle.fields.specs.Same.{stands_at}
-use Rattle.refusals.specs.Refusals.{number_of, refusal_of, refusal_at}
+use Rattle.refusals.specs.Refusals.{number_of, in_table, refusal_of, refusal_at}
 use Rattle.refusals.specs.declared.Refusal.{Refusal}
 use Rattle.entries.specs.declared.Limits.{Limits}
 use Rattle.entries.specs.declared.Kind.{Kind}
@@ -10,6 +10,7 @@ use Rattle.entries.specs.Rising.{rising}
 use Rattle.chunk.specs.Chunk.{Entries, broken, all, Parsed, bad, parsed_with, entries_at, quick, framed, checked_entries, parsed_as, parsed, listing, index, is_good}
 use Rattle.entries.specs.Entry.{entry_name}
 use Rattle.chunk_fields.specs.ChunkFields.{tag_of, first_place, entry_count, tail_length, spacing_of}
+use Rattle.chunk.proofs.Refusals.{chunk_refused}
 use Rattle.header.specs.Header.{header_of}
 use Rattle.header.specs.declared.Record.{Record}
 use Rattle.header.proofs.Checks.{header_refused}
@@ -23,49 +24,9 @@ use Rattle.refusals.specs.declared.Rule.{Rule}
 
 -- ---- a bad chunk's number is from 8 to 12
 
-abbrev InTable : Parsed → Type 0
-InTable (bad n) = (8 ≤ number_of n) × (number_of n ≤ 12)
-InTable (listing prev next es) = Unit {0}
-InTable (index es) = Unit {0}
-
-made_table : (k : Kind) (s : List ℕ) (es : List _) → InTable (parsed_with k s es)
-made_table Listing s es = tt
-made_table Index s es = tt
-
-judged_table : (n : ℕ) (k : Kind) (s : List ℕ) (r : Entries) → InTable (checked_entries n k s r)
-unfolding checked_entries
-judged_table n k s broken = (omega arith, omega arith)
-judged_table n k s (all es) = go (rising entry_name [] es) (quick s n (first_place k) 0 es)
-  where
-    go : (a b : Bool) → InTable (cond a (cond b (parsed_with k s es) (bad QuickWords)) (bad NameOrder))
-    go true true = made_table k s es
-    go true false = (omega arith, omega arith)
-    go false b = (omega arith, omega arith)
-
-as_table : (n : ℕ) (limits : Limits) (k : Kind) (s : List ℕ) → InTable (parsed_as n limits k s)
-unfolding parsed_as
-as_table n limits k s = go (framed n k s)
-  where
-    go : (t : Bool) → InTable (cond t (checked_entries n k s (entries_at limits k s (4096 - tail_length s) (entry_count s) (first_place k))) (bad ChunkFrame))
-    go true = judged_table n k s (entries_at limits k s (4096 - tail_length s) (entry_count s) (first_place k))
-    go false = (omega arith, omega arith)
-
-fault_table : (limits : Limits) (s : List ℕ) → InTable (parsed limits s)
-unfolding parsed
-fault_table limits s = go (eqb (length s) 4096) (stands_at s 0 (tag_of Listing)) (stands_at s 0 (tag_of Index))
-  where
-    whole : Kind → Parsed
-    whole k = parsed_as (spacing_of limits.density) limits k s
-
-    go : (a b c : Bool) → InTable (cond a (cond b (whole Listing) (cond c (whole Index) (bad ChunkTag))) (bad ChunkTag))
-    go true true c = as_table _ limits Listing s
-    go true false true = as_table _ limits Index s
-    go true false false = (omega arith, omega arith)
-    go false b c = (omega arith, omega arith)
-
-chunk_table : (s : List ℕ) (r : Record) (c : ℕ) (n : Rule) → directory_of s r c ≡ bad n → (8 ≤ number_of n) × (number_of n ≤ 12)
+chunk_table : (s : List ℕ) (r : Record) (c : ℕ) (n : Rule) → directory_of s r c ≡ bad n → (8 ≤ number_of n) × (number_of n ≤ 12) × (in_table n ≡ true)
 unfolding directory_of
-chunk_table s r c n e = subst InTable e (fault_table (limits_of s r) (chunk_bytes s r c))
+chunk_table s r c n e = chunk_refused (limits_of s r) (chunk_bytes s r c) n e
 
 -- ---- the pass over the chunks: it refuses by the first bad one, or leaves the answer to what follows
 
@@ -123,3 +84,10 @@ refusal_told s x e = go (header_of s) refl e
         let a : n ≡ x.rule = ap (λ (w : Refusal). w.rule) y in
         let t = header_refused s x.rule (h ∙ ap Err a) in
         head (h ∙ ap Err a) (omega arith) (omega arith) (sym (ap (λ (w : Refusal). w.chunk) y))
+
+-- its rule is one of the table
+pub told_table : (s : List ℕ) (x : Refusal) → Told s x → in_table x.rule ≡ true
+told_table s x (head e a b c) = (header_refused s x.rule e).2
+told_table s x (chunk r k h c l e g a b) = (chunk_table s r k x.rule e).2
+told_table s x (chain r h g e n c) = ap in_table n
+told_table s x (tree r h g e f n c) = ap in_table n

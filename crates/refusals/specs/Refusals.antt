@@ -1,5 +1,5 @@
 -- A refusal is a rule and the place where it is broken; to users the rule is its number (FORMAT, Refusals; RO7).
-use Rattle.std.specs.Prelude.{ℕ, Option, Some, None, if◌then◌else◌, ◌==◌}
+use Rattle.std.specs.Prelude.{ℕ, Bool, true, false, Option, Some, None, if◌then◌else◌, ◌==◌}
 use Rattle.refusals.specs.declared.Rule.{Rule}
 use Rattle.refusals.specs.declared.Rule.TheVariants.{ShortFile, FileTags, WrongVersion, WrongSections, WrongLength, DirectoryTags, WrongDirectory, ChunkTag, ChunkFrame, BadEntry, QuickWords, NameOrder, BrokenChain, BrokenTree, BadName, ShortTrail, BadRecord, BadInput, TooManyChunks, ShortOutput, BadBatch, LongInput, Other}
 use Rattle.refusals.specs.declared.Refusal.{Refusal}
@@ -33,6 +33,11 @@ number_of ShortOutput = 20
 number_of BadBatch = 22
 number_of LongInput = 29
 number_of (Other n) = n
+
+-- whether a rule stands in the table, as each does that this library gives; a caller's may be any number
+abbrev pub in_table : Rule → Bool
+in_table (Other n) = false
+in_table n = true
 
 -- the rule of a number
 abbrev pub rule_of : ℕ → Rule

@@ -1,3 +1,4 @@
 pub mod Entering
 pub mod Standing
 pub mod Falling
+pub mod Refusals

@@ -7,3 +7,4 @@ pub mod Shaping
 pub mod Lengths
 pub mod Indexing
 pub mod Heads
+pub mod Refusals
