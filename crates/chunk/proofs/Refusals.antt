@@ -1,5 +1,5 @@
 -- A bad chunk breaks one of the rules 8 to 12: `chunk_refused`, and `check_refused` of the answer on it.
-use Rattle.fields.proofs.Base.{◌≡◌, refl, subst, Bool, true, false, cond, List, [], ℕ, ◌-◌, ◌≤◌, arith, length, eqb, Result, Ok, Err}
+use Rattle.fields.proofs.Base.{◌≡◌, refl, subst, Bool, true, false, cond, List, [], ℕ, ◌-◌, ◌≤◌, arith, length, eqb, Err}
 use Rattle.fields.specs.Same.{stands_at}
 use Rattle.refusals.specs.Refusals.{number_of, in_table}
 use Rattle.entries.specs.declared.Limits.{Limits}
@@ -9,7 +9,6 @@ use Rattle.entries.specs.Rising.{rising}
 use Rattle.entries.specs.Entry.{entry_name}
 use Rattle.chunk.specs.Chunk.{Entries, broken, all, Parsed, bad, parsed_with, entries_at, quick, framed, checked_entries, parsed_as, parsed, listing, index}
 use Rattle.chunk.specs.Answer.{chunk_of}
-use Rattle.chunk.specs.declared.Chunk.{Chunk}
 use Rattle.chunk_fields.specs.ChunkFields.{tag_of, first_place, entry_count, tail_length, spacing_of}
 use Rattle.refusals.specs.declared.Rule.TheVariants.{ChunkTag, ChunkFrame, QuickWords, NameOrder}
 use Rattle.refusals.specs.declared.Rule.{Rule}

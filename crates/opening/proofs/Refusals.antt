@@ -1,15 +1,8 @@
 -- Each refusal of opening bears a number of the table, and the place that belongs to it: `refusal_told`, `told_table`.
-use Rattle.fields.proofs.Base.{◌≡◌, refl, sym, ap, subst, ◌∙◌, Bool, true, false, cond, List, [], ℕ, zero, suc, ◌+◌, ◌-◌, ◌≤◌, ◌<◌, arith, ℕ_discrete, length, eqb, Result, Ok, Err, Some, None}
-use Rattle.fields.specs.Same.{stands_at}
+use Rattle.fields.proofs.Base.{◌≡◌, refl, sym, ap, ◌∙◌, Bool, true, false, cond, List, ℕ, zero, suc, ◌+◌, ◌≤◌, ◌<◌, arith, ℕ_discrete, Result, Ok, Err, Some, None}
 use Rattle.refusals.specs.Refusals.{number_of, in_table, refusal_of, refusal_at}
 use Rattle.refusals.specs.declared.Refusal.{Refusal}
-use Rattle.entries.specs.declared.Limits.{Limits}
-use Rattle.entries.specs.declared.Kind.{Kind}
-use Rattle.entries.specs.declared.Kind.TheVariants.{Listing, Index}
-use Rattle.entries.specs.Rising.{rising}
-use Rattle.chunk.specs.Chunk.{Entries, broken, all, Parsed, bad, parsed_with, entries_at, quick, framed, checked_entries, parsed_as, parsed, listing, index, is_good}
-use Rattle.entries.specs.Entry.{entry_name}
-use Rattle.chunk_fields.specs.ChunkFields.{tag_of, first_place, entry_count, tail_length, spacing_of}
+use Rattle.chunk.specs.Chunk.{Parsed, bad, listing, index, is_good}
 use Rattle.chunk.proofs.Refusals.{chunk_refused}
 use Rattle.header.specs.Header.{header_of}
 use Rattle.header.specs.declared.Record.{Record}
@@ -19,7 +12,7 @@ use Rattle.tree.specs.Tree.{tree_ok}
 use Rattle.book.specs.Book.{limits_of, chunk_bytes, directory_of, shape_of}
 use Rattle.opening.specs.Opened.{chunks_then, linked_book, with_header, opened, chunk_then}
 use Rattle.opening.specs.Refusals.{ChunksGood, Told, head, chunk, chain, tree}
-use Rattle.refusals.specs.declared.Rule.TheVariants.{ChunkTag, ChunkFrame, QuickWords, NameOrder, BrokenChain, BrokenTree}
+use Rattle.refusals.specs.declared.Rule.TheVariants.{BrokenChain, BrokenTree}
 use Rattle.refusals.specs.declared.Rule.{Rule}
 
 -- ---- a bad chunk's number is from 8 to 12

@@ -1,5 +1,5 @@
 -- The writer's refusals: 18, 19 and 20, which belong to no chunk.
-use Rattle.fields.proofs.Base.{◌≡◌, sym, ◌⊎◌, inl, inr, Bool, true, false, cond, List, ℕ, arith, leb, Result, Ok, Err}
+use Rattle.fields.proofs.Base.{◌≡◌, sym, ◌⊎◌, inl, inr, Bool, true, false, cond, List, ℕ, arith, leb, Ok, Err}
 use Rattle.refusals.specs.Refusals.{refusal_of}
 use Rattle.refusals.specs.declared.Refusal.{Refusal}
 use Rattle.refusals.specs.declared.Rule.TheVariants.{BadInput, TooManyChunks, ShortOutput}
